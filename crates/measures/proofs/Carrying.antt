@@ -1,0 +1,29 @@
+-- What the laws of a measure say along words and over lists of values.
+use mathlib.Core.Path.{_≡_, refl, ap, _∙_}
+use mathlib.Core.List.{List, [], _∷_, map}
+use Prim.Native.Nat.{ℕ, _+_, _<_, _≤_}
+use lib.ListN.{length, getD, drop}
+use Rattle.std.proofs.shelf.Lists.{at-drop-more, at-drop-all}
+use Rattle.measures.specs.Words.{Letter, Word, Labels}
+use Rattle.measures.specs.Measuring.{Meaning, Lawful, carried-from, carried, joined, Carries}
+
+module _ {V : Type 0} (m : Meaning V) where
+  -- one letter further along a word
+  pub carried-more : (v : V) (w : Word) (i : ℕ) → i < length w → carried-from m v (drop i w) ≡ carried-from m (m .step v (getD w i 0)) (drop (i + 1) w)
+  carried-more v w i h = at-drop-more (carried-from m v) w i 0 h
+
+  pub carried-all : (v : V) (w : Word) (i : ℕ) → length w ≤ i → carried-from m v (drop i w) ≡ v
+  carried-all v w i h = at-drop-all (carried-from m v) w i h
+
+  module _ (admits : V → Type 0) (laws : Lawful m admits) where
+    pub carried-join : (a b : V) (w : Word) → admits a → admits b → Labels (m .labels) w → carried-from m (m .join a b) w ≡ m .join (carried-from m a w) (carried-from m b w)
+    carried-join a b [] ha hb ls = refl
+    carried-join a b (l ∷ w) ha hb ls =
+        ap (λ (x : V). carried-from m x w) (laws .distributes a b l ha hb (ls .0))
+        ∙ carried-join (m .step a l) (m .step b l) w (laws .step-admitted a l ha) (laws .step-admitted b l hb) (ls .1)
+
+    pub carries : Carries m admits
+    carries v [] w hv hs ls = refl
+    carries v (x ∷ xs) w hv hs ls =
+        carries (m .join v x) xs w (laws .join-admitted v x hv (hs .0)) (hs .1) ls
+        ∙ ap (λ (y : V). joined m y (map (λ z. carried-from m z w) xs)) (carried-join v x w hv (hs .0) ls)

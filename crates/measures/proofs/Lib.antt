@@ -1,0 +1,6 @@
+pub mod Accepting
+pub mod Carrying
+pub mod Images
+mod Ranges
+mod Reading
+pub mod Translating

@@ -1,0 +1,9 @@
+pub mod Words
+pub mod Measuring
+pub mod Judging
+pub mod Refusing
+pub mod Counting
+pub mod Spanning
+pub mod Automata
+pub mod Formats
+pub mod Relabels

@@ -1,0 +1,3 @@
+mod Decimal
+mod Hex
+mod Places
