@@ -2,7 +2,7 @@
 use mathlib.Core.Path.{_≡_, refl, ap, sym, subst, _∙_}
 use mathlib.Core.Logic.{_⊎_, inl, inr, ⊎-elim, _↔_}
 use mathlib.Core.Bool.{Bool, true, false, cond, _||_, _&&_}
-use mathlib.Core.List.{List, [], _∷_, map}
+use mathlib.Core.List.{List, [], _∷_}
 use Prim.Native.Nat.{ℕ, _+_, _*_, _^_, _<_, _≤_}
 use native.Mathlib.Omega.{arith}
 use lib.Bits.{bitOr, or-comm, or-lt}
@@ -17,13 +17,13 @@ use Rattle.bitset.specs.Sets.{Member, meets, within}
 use Rattle.bitset.proofs.Bits.{bit-pow, bit-pow-self, or-assoc, or-pos}
 use Rattle.bitset.proofs.Members.{member-or, or-member-left, or-member-right, meets-members, within-members}
 use Rattle.measures.specs.Words.{Letter, Word, Labels}
-use Rattle.measures.specs.Measuring.{Meaning, Lawful, Each, carried-from, carried, joined}
+use Rattle.measures.specs.Measuring.{Meaning, Lawful, carried-from, carried}
 use Rattle.measures.specs.Judging.{Judges}
-use Rattle.measures.specs.Automata.{next, leads, image, state-sets, Any, Reaches}
+use Rattle.measures.specs.Automata.{next, leads, image, state-sets}
 use Rattle.measures.proofs.Images.{image-or, image-pow, image-below, image-pos}
 
 -- the only member of 2 ^ q is q
-only-member : (q k : ℕ) → Member k (2 ^ q) ↔ (q ≡ k)
+pub only-member : (q k : ℕ) → Member k (2 ^ q) ↔ (q ≡ k)
 only-member q k = (bit-pow q k, λ e. subst (λ (j : ℕ). Member j (2 ^ q)) e (bit-pow-self q))
 
 meets-or : (f a b : ℕ) → meets (bitOr a b) f ≡ (meets a f || meets b f)
@@ -43,14 +43,14 @@ within-or f a b =
     (decides-and (within a f) (within b f) (within-members a f) (within-members b f)))
 
 -- a set of one state meets the final states, and is within them, exactly when the state is final
-meets-one : (f q : ℕ) → Decides (meets (2 ^ q) f) (Member q f)
+pub meets-one : (f q : ℕ) → Decides (meets (2 ^ q) f) (Member q f)
 meets-one f q =
     decides-like (meets (2 ^ q) f)
     (λ p. subst (λ (k : ℕ). Member k f) (sym (bit-pow q (p .0) (p .1))) (p .2))
     (λ m. (q, bit-pow-self q, m))
     (meets-members (2 ^ q) f)
 
-within-one : (f q : ℕ) → Decides (within (2 ^ q) f) (Member q f)
+pub within-one : (f q : ℕ) → Decides (within (2 ^ q) f) (Member q f)
 within-one f q =
     decides-like (within (2 ^ q) f)
     (λ p. p q (bit-pow-self q))
@@ -94,36 +94,8 @@ module _ (states labels start : ℕ) (table : List ℕ) (counted : (0 < labels) 
       ∙ ap (λ (set : ℕ). carried-from (state-sets states labels start table) set w) (image-pow (next labels table l) states q hq)
       ∙ carried-pow (next labels table l q) w (next-below l q (ls .0) hq) (ls .1)
 
-  carried-one : (w : Word) → Labels labels w → carried (state-sets states labels start table) w ≡ 2 ^ leads (next labels table) start w
+  pub carried-one : (w : Word) → Labels labels w → carried (state-sets states labels start table) w ≡ 2 ^ leads (next labels table) start w
   carried-one w ls = carried-pow start w begins ls
-
-  carried-member : (w : Word) → Labels labels w → (q : ℕ) → Member q (carried (state-sets states labels start table) w) ↔ (leads (next labels table) start w ≡ q)
-  carried-member w ls q =
-      subst (λ (set : ℕ). Member q set ↔ (leads (next labels table) start w ≡ q)) (sym (carried-one w ls)) (only-member (leads (next labels table) start w) q)
-
-  -- the members of a join that begins with a set, and then has the sets of words
-  joined-member : (set : ℕ) (ws : List Word) → Each (Labels labels) ws → (q : ℕ)
-      → Member q (joined (state-sets states labels start table) set (map (carried (state-sets states labels start table)) ws)) ↔ (Member q set ⊎ Any (λ v. leads (next labels table) start v ≡ q) ws)
-  joined-member set [] ls q = (inl, ⊎-elim (λ m. m) (λ n. absurd n))
-  joined-member set (w ∷ ws) ls q =
-      let one = carried-member w (ls .0) q in
-      let rest = joined-member (bitOr set (carried (state-sets states labels start table) w)) ws (ls .1) q in (
-        λ m. ⊎-elim (λ i. ⊎-elim inl (λ k. inr (inl (one .0 k))) (member-or set (carried (state-sets states labels start table) w) q i)) (λ i. inr (inr i)) (rest .0 m),
-        λ p. rest .1 (⊎-elim
-            (λ i. inl (or-member-left set (carried (state-sets states labels start table) w) q i))
-            (⊎-elim (λ e. inl (or-member-right set (carried (state-sets states labels start table) w) q (one .1 e))) inr)
-            p),
-      )
-
-  pub reaches : Reaches states labels start table
-  reaches = record {
-    one = carried-one;
-    member = carried-member;
-    union = λ w ws ls q.
-        let one = carried-member w (ls .0) q in
-        let rest = joined-member (carried (state-sets states labels start table) w) ws (ls .1) q in
-        (λ m. ⊎-elim (λ i. inl (one .0 i)) inr (rest .0 m), λ p. rest .1 (⊎-elim (λ e. inl (one .1 e)) inr p));
-  }
 
   -- the accepted words are the good ones
   module _ (finals : ℕ) {admits : ℕ → Type 0} where

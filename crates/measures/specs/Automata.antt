@@ -1,15 +1,14 @@
 -- Automata given by a table of next states, and sets of their states.
 use mathlib.Core.Path.{_≡_}
-use mathlib.Core.Bool.{Bool, cond}
-use mathlib.Core.List.{List, [], _∷_, map}
-use mathlib.Core.Logic.{_⊎_, _↔_}
+use mathlib.Core.Bool.{cond}
+use mathlib.Core.List.{List, [], _∷_}
 use Prim.Native.Nat.{ℕ, zero, suc, _+_, _*_, _^_, _<_}
 use lib.Bits.{bitOr}
 use lib.Dec.{ltb}
 use lib.ListN.{getD}
 use Rattle.bitset.specs.Sets.{Member, has}
-use Rattle.measures.specs.Words.{Letter, Word, Labels}
-use Rattle.measures.specs.Measuring.{Meaning, Each, carried, joined}
+use Rattle.measures.specs.Words.{Letter, Word}
+use Rattle.measures.specs.Measuring.{Meaning}
 
 -- the next state of q under l: the table has a row for each state, with a column for each of the labels
 abbrev pub next : ℕ → List ℕ → Letter → ℕ → ℕ
@@ -38,16 +37,3 @@ state-sets states labels start table = record {
   step = λ set l. cond (ltb l labels) (image (next labels table l) states set) set;
   join = bitOr;
 }
-
--- P holds of some word of the list
-abbrev pub Any : (Word → Type 0) → List Word → Type 0
-Any P [] = ⊥
-Any P (w ∷ ws) = P w ⊎ Any P ws
-
--- The set carried along a word of labels holds just the state to which the word leads,
--- and the union over a non-empty list of such words holds exactly the states to which they lead.
-pub record Reaches (states labels start : ℕ) (table : List ℕ) : Type 0 where
-  pub one : (w : Word) → Labels labels w → carried (state-sets states labels start table) w ≡ 2 ^ leads (next labels table) start w
-  pub member : (w : Word) → Labels labels w → (q : ℕ) → Member q (carried (state-sets states labels start table) w) ↔ (leads (next labels table) start w ≡ q)
-  pub union : (w : Word) (ws : List Word) → Each (Labels labels) (w ∷ ws) → (q : ℕ)
-      → Member q (joined (state-sets states labels start table) (carried (state-sets states labels start table) w) (map (carried (state-sets states labels start table)) ws)) ↔ Any (λ v. leads (next labels table) start v ≡ q) (w ∷ ws)

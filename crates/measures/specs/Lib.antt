@@ -1,9 +1,10 @@
-pub mod Words
-pub mod Measuring
-pub mod Judging
-pub mod Refusing
-pub mod Counting
-pub mod Spanning
+pub mod Accepted
 pub mod Automata
+pub mod Counting
 pub mod Formats
+pub mod Judging
+pub mod Measuring
+pub mod Refusing
 pub mod Relabels
+pub mod Spanning
+pub mod Words

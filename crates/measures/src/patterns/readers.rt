@@ -4,7 +4,9 @@ ghost use Prim.Native.Nat.{ℕ, _+_, _*_, _<_};
 ghost use lib.ListN.{length, getD};
 ghost use Rattle.std.specs.Results.{Cases};
 ghost use Rattle.std.specs.declared.option.Option.the-variants.{Some, None};
-ghost use Rattle.measures.specs.Automata.{Reaches};
+ghost use Rattle.bitset.specs.Sets.{meets, within};
+ghost use Rattle.measures.specs.Accepted.{Recognizes};
+ghost use Rattle.measures.specs.Automata.{state-sets};
 ghost use Rattle.measures.specs.Formats.{head-fault, pattern-fault, little-endian, states-in, labels-in, start-in, finals-in, PatternOf};
 use super::super::refusals::Fault;
 use super::super::refusals::Refusal;
@@ -88,7 +90,7 @@ impl Pattern {
     // The pattern at the front of the input.
     pub fn read(input: &[u8]) -> Result<Pattern, Fault>
         ensures answer { λ r. ⌜ Cases r (λ p. (pattern-fault (now (input .entry)) ≡ None) × PatternOf (now (input .entry)) (p .head .states) (p .head .labels) (p .head .start) (p .head .finals) (p .table)) (λ f. pattern-fault (now (input .entry)) ≡ Some f) ⌝ }
-        ensures reaches { λ r. ⌜ Cases r (λ p. Reaches (p .head .states) (p .head .labels) (p .head .start) (p .table)) (λ _. Unit {0}) ⌝ }
+        ensures recognizes { λ r. ⌜ Cases r (λ p. Recognizes (now (input .entry)) (state-sets (p .head .states) (p .head .labels) (p .head .start) (p .table)) (λ set. meets set (p .head .finals)) (λ set. within set (p .head .finals))) (λ _. Unit {0}) ⌝ }
     {
         let head = read_head(input)?;
         let count = head.states as usize * head.labels as usize;

@@ -1,0 +1,3 @@
+mod Chains
+mod Judgement
+mod Texts
