@@ -13,7 +13,7 @@ use Rattle.measures.specs.Words.{Letter, Word, Labels}
 use Rattle.chain.specs.declared.lines.Stop.{Stop}
 use Rattle.chain.specs.declared.lines.Stop.the-variants.{UnknownLabel}
 use Rattle.chain.specs.Lines.{line-after, verdict-after, fault-after}
-use Rattle.chain.specs.Walking.{known, lines, last-line, walk}
+use Rattle.chain.specs.Walks.{known, lines, last-line, walk}
 use Rattle.chain.proofs.Texts.{line-follows, verdict-follows, fault-follows}
 
 labels-push : (n : ℕ) (w : Word) (l : Letter) → Labels n w → l < n → Labels n (w ++ l ∷ [])

@@ -8,14 +8,14 @@ use lib.ListN.{drop}
 use Rattle.std.specs.declared.option.Option.{Option}
 use Rattle.std.specs.declared.option.Option.the-variants.{Some, None}
 use Rattle.measures.specs.declared.refusals.Fault.{Fault}
-use Rattle.measures.specs.Accepted.{state-after, accepts, Recognizes}
+use Rattle.measures.specs.Acceptance.{state-after, accepts, Recognizes}
 use Rattle.measures.specs.Formats.{labels-in, pattern-fault}
-use Rattle.measures.specs.Measuring.{Meaning, carried}
+use Rattle.measures.specs.Measures.{Meaning, carried}
 use Rattle.measures.specs.Words.{Word, Labels}
 use Rattle.chain.specs.declared.lines.Stop.the-variants.{BadPattern}
 use Rattle.chain.specs.Lines.{fault-after}
-use Rattle.chain.specs.Walking.{walk, walk-by}
-use Rattle.chain.specs.Reporting.{chain-start, judged}
+use Rattle.chain.specs.Walks.{walk, walk-by}
+use Rattle.chain.specs.Reports.{chain-start, judged}
 use Rattle.chain.proofs.Chains.{walk-same}
 use Rattle.chain.proofs.Texts.{fault-follows}
 

@@ -1,3 +1,3 @@
 pub mod Lines
-pub mod Walking
-pub mod Reporting
+pub mod Walks
+pub mod Reports

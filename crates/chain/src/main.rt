@@ -2,6 +2,8 @@
 // the state after each mark and whether the chain fits the pattern.
 mod lines;
 mod reports;
+#[cfg(test)]
+mod tests;
 mod walks;
 
 use std::io;

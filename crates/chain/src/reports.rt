@@ -4,7 +4,7 @@ ghost use mathlib.Core.Path.{_≡_};
 ghost use Rattle.std.specs.Of.Vec.{vec-items};
 ghost use Rattle.std.specs.Vec.{made};
 ghost use Rattle.measures.specs.Formats.{pattern-fault};
-ghost use Rattle.chain.specs.Reporting.{judged, report-on};
+ghost use Rattle.chain.specs.Reports.{judged, report-on};
 use super::lines::Stop;
 use super::lines::push_fault;
 use super::walks::push_walk;

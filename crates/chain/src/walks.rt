@@ -5,7 +5,7 @@ ghost use Prim.Native.Nat.{_+_, _^_, _<_};
 ghost use lib.ListN.{length};
 ghost use Rattle.std.specs.Of.Vec.{vec-items};
 ghost use Rattle.std.specs.Vec.{made};
-ghost use Rattle.chain.specs.Walking.{walk-by};
+ghost use Rattle.chain.specs.Walks.{walk-by};
 use super::lines::Stop;
 use super::lines::push_fault;
 use super::lines::push_line;

@@ -17,8 +17,8 @@ use Rattle.bitset.specs.Sets.{Member, meets, within}
 use Rattle.bitset.proofs.Bits.{bit-pow, bit-pow-self, or-assoc, or-pos}
 use Rattle.bitset.proofs.Members.{member-or, or-member-left, or-member-right, meets-members, within-members}
 use Rattle.measures.specs.Words.{Letter, Word, Labels}
-use Rattle.measures.specs.Measuring.{Meaning, Lawful, carried-from, carried}
-use Rattle.measures.specs.Judging.{Judges}
+use Rattle.measures.specs.Measures.{Meaning, Lawful, carried-from, carried}
+use Rattle.measures.specs.Judges.{Judges}
 use Rattle.measures.specs.Automata.{next, leads, image, state-sets}
 use Rattle.measures.proofs.Images.{image-or, image-pow, image-below, image-pos}
 

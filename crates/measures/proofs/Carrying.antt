@@ -5,7 +5,7 @@ use Prim.Native.Nat.{ℕ, _+_, _<_, _≤_}
 use lib.ListN.{length, getD, take, drop}
 use Rattle.std.proofs.shelf.Lists.{at-drop-more, at-drop-all, take-more}
 use Rattle.measures.specs.Words.{Letter, Word, Labels}
-use Rattle.measures.specs.Measuring.{Meaning, Lawful, carried-from, carried, joined, Carries}
+use Rattle.measures.specs.Measures.{Meaning, Lawful, carried-from, carried, joined, Carries}
 
 module _ {V : Type 0} (m : Meaning V) where
   -- one letter further along a word

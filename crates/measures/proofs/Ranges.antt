@@ -12,9 +12,9 @@ use Rattle.std.proofs.shelf.Tests.{lt-ltb, le-leb, leb-true}
 use Rattle.std.proofs.shelf.Ways.{tells, decides-at}
 use Rattle.measures.specs.declared.spans.Ends.{Ends}
 use Rattle.measures.specs.Words.{Word, Labels}
-use Rattle.measures.specs.Measuring.{Meaning, carried-from, carried}
-use Rattle.measures.specs.Judging.{Judges}
-use Rattle.measures.specs.Spanning.{ends, longer, span}
+use Rattle.measures.specs.Measures.{Meaning, carried-from, carried}
+use Rattle.measures.specs.Judges.{Judges}
+use Rattle.measures.specs.Spans.{ends, longer, span}
 
 carried-ends : (n k : ℕ) (w : Word) → k ≤ 65535 → Labels n w → carried-from (span n) (ends k k) w ≡ ends (min (k + length w) 65535) (min (k + length w) 65535)
 carried-ends n k [] h ls = ap (λ (j : ℕ). ends j j) (omega arith)

@@ -12,7 +12,7 @@ use Rattle.std.proofs.shelf.Lists.{append-assoc, getD-append-left, set-at, take
 use Rattle.std.proofs.shelf.Tests.{lt-ltb, le-ltb, le-leb}
 use Rattle.measures.specs.declared.refusals.Fault.{Fault}
 use Rattle.measures.specs.declared.refusals.Refusal.the-variants.{TableTooShort, EntryTooLarge}
-use Rattle.measures.specs.Refusing.{fault, ask}
+use Rattle.measures.specs.Refusals.{fault, ask}
 use Rattle.measures.specs.Formats.{one-further, first-over, over-fault, table-fault, or-else, padded, head-fault, pattern-fault, states-in, labels-in, start-in, finals-in, table-in, PatternOf}
 
 module _ (bound : ℕ) where

@@ -14,10 +14,10 @@ use Rattle.std.proofs.shelf.Ways.{same-from-decides, decides-eqb}
 use Rattle.bitset.specs.Sets.{bit, Member, has, meets, within}
 use Rattle.bitset.proofs.Members.{member-or, or-member-left, or-member-right}
 use Rattle.measures.specs.Words.{Letter, Word, Labels}
-use Rattle.measures.specs.Measuring.{Meaning, Each, carried, joined}
+use Rattle.measures.specs.Measures.{Meaning, Each, carried, joined}
 use Rattle.measures.specs.Automata.{next, leads, state-sets}
 use Rattle.measures.specs.Formats.{labels-in, table-in, padded, PatternOf}
-use Rattle.measures.specs.Accepted.{state-after, accepts, Any, Recognizes}
+use Rattle.measures.specs.Acceptance.{state-after, accepts, Any, Recognizes}
 use Rattle.measures.proofs.Accepting.{carried-one, only-member, meets-one, within-one}
 
 zeros : (n i : ℕ) → _≡_ {A = ℕ} (getD (replicate n 0) i 0) 0

@@ -8,9 +8,9 @@ use lib.ListN.{getD}
 use Rattle.std.proofs.shelf.Tests.{lt-ltb, ltb-true, cond-both}
 use Rattle.std.proofs.shelf.Ways.{decides-at}
 use Rattle.measures.specs.Words.{Letter, Word, Labels}
-use Rattle.measures.specs.Measuring.{Meaning, carried-from}
-use Rattle.measures.specs.Judging.{Judges}
-use Rattle.measures.specs.Relabels.{inner-label, translated, relabelled}
+use Rattle.measures.specs.Measures.{Meaning, carried-from}
+use Rattle.measures.specs.Judges.{Judges}
+use Rattle.measures.specs.Relabellings.{inner-label, translated, relabelled}
 
 module _ (entries : List ℕ) (n : ℕ) (some : 0 < n) where
   inner-label-below : (l : Letter) → inner-label entries n l < n

@@ -8,7 +8,7 @@ use lib.Dec.{ltb}
 use lib.ListN.{getD}
 use Rattle.bitset.specs.Sets.{Member, has}
 use Rattle.measures.specs.Words.{Letter, Word}
-use Rattle.measures.specs.Measuring.{Meaning}
+use Rattle.measures.specs.Measures.{Meaning}
 
 -- the next state of q under l: the table has a row for each state, with a column for each of the labels
 abbrev pub next : ℕ → List ℕ → Letter → ℕ → ℕ

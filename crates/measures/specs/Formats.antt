@@ -9,7 +9,7 @@ use Rattle.std.specs.declared.option.Option.{Option}
 use Rattle.std.specs.declared.option.Option.the-variants.{Some, None}
 use Rattle.measures.specs.declared.refusals.Fault.{Fault}
 use Rattle.measures.specs.declared.refusals.Refusal.the-variants.{PatternTooShort, NotAPattern, StateCount, LabelCount, StartState, FinalStates, TableTooShort, EntryTooLarge, NotARelabelling}
-use Rattle.measures.specs.Refusing.{fault, ask, counted}
+use Rattle.measures.specs.Refusals.{fault, ask, counted}
 
 abbrev pub one-further : Option ℕ → Option ℕ
 one-further None = None

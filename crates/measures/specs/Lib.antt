@@ -1,10 +1,10 @@
-pub mod Accepted
+pub mod Acceptance
 pub mod Automata
-pub mod Counting
+pub mod Counts
 pub mod Formats
-pub mod Judging
-pub mod Measuring
-pub mod Refusing
-pub mod Relabels
-pub mod Spanning
+pub mod Judges
+pub mod Measures
+pub mod Refusals
+pub mod Relabellings
+pub mod Spans
 pub mod Words

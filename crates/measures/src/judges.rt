@@ -1,7 +1,7 @@
 // Judges: measures that say whether some, or all, of the words that a value stands for are good.
 ghost use mathlib.Core.Bool.{Bool, _||_, _&&_};
 ghost use mathlib.Core.Path.{_≡_};
-ghost use Rattle.measures.specs.Judging.{Judges};
+ghost use Rattle.measures.specs.Judges.{Judges};
 ghost use Rattle.measures.specs.Words.{Word};
 use super::Measure;
 

@@ -2,7 +2,7 @@
 // A unit is one process of a handset; a mark is an event that it shows, with a label;
 // a flow is a chain of marks, each an immediate predecessor of the next, and its word is the list of their labels.
 ghost use mathlib.Core.Path.{_≡_};
-ghost use Rattle.measures.specs.Measuring.{Meaning, Lawful, carried, Carries};
+ghost use Rattle.measures.specs.Measures.{Meaning, Lawful, carried, Carries};
 
 pub mod counts;
 pub mod judges;

@@ -38,6 +38,22 @@ pub struct Pattern {
     ghost complete: { (k : ℕ) → k < head .states * head .labels → getD table k 0 < head .states },
 }
 
+impl Head {
+    // Whether some state of the set is final.
+    fn some_final(&self, set: u64) -> bool
+        ensures { λ r. ⌜ r ≡ meets set (now (self .entry) .finals) ⌝ }
+    {
+        intersects(set, self.finals)
+    }
+
+    // Whether each state of the set is final.
+    fn all_final(&self, set: u64) -> bool
+        ensures { λ r. ⌜ r ≡ within set (now (self .entry) .finals) ⌝ }
+    {
+        is_subset(set, self.finals)
+    }
+}
+
 pub impl Measure for Pattern as PatternMeasure {
     type Value = u64;
 
@@ -74,10 +90,10 @@ pub impl Judge for Pattern as PatternJudge {
     ghost allOf = { λ m set. within set (m .head .finals) };
 
     fn some(&self, v: u64) -> bool {
-        intersects(v, self.head.finals)
+        self.head.some_final(v)
     }
 
     fn all(&self, v: u64) -> bool {
-        is_subset(v, self.head.finals)
+        self.head.all_final(v)
     }
 }

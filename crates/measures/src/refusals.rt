@@ -1,6 +1,6 @@
 // Why a pattern, a relabelling or a measure is refused.
 ghost use mathlib.Core.Path.{_≡_};
-ghost use Rattle.measures.specs.Refusing.{number, counted};
+ghost use Rattle.measures.specs.Refusals.{number, counted};
 
 #[derive(Clone, Copy, PartialEq, Eq, Debug)]
 pub enum Refusal {

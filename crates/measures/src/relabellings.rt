@@ -4,7 +4,7 @@ ghost use Prim.Native.Nat.{_+_, _<_, _≤_};
 ghost use Rattle.std.specs.Results.{Cases};
 ghost use Rattle.std.specs.declared.option.Option.the-variants.{Some, None};
 ghost use Rattle.measures.specs.Formats.{relabelling-fault, count-in, entries-in, padded};
-ghost use Rattle.measures.specs.Relabels.{inner-label, translated, relabelled};
+ghost use Rattle.measures.specs.Relabellings.{inner-label, translated, relabelled};
 use super::Measure;
 use super::judges::Judge;
 use super::refusals::Fault;

@@ -5,8 +5,8 @@ ghost use lib.Dec.{leb};
 ghost use lib.ListN.{length};
 ghost use Rattle.std.specs.Results.{Cases};
 ghost use Rattle.std.specs.declared.option.Option.the-variants.{Some, None};
-ghost use Rattle.measures.specs.Refusing.{span-refusal};
-ghost use Rattle.measures.specs.Spanning.{span};
+ghost use Rattle.measures.specs.Refusals.{span-refusal};
+ghost use Rattle.measures.specs.Spans.{span};
 use super::Measure;
 use super::judges::Judge;
 use super::refusals::Refusal;
@@ -70,10 +70,9 @@ pub impl Measure for Span as SpanMeasure {
     }
 
     fn join(&self, a: Ends, b: Ends) -> Ends {
-        Ends {
-            shortest: a.shortest.min(b.shortest),
-            longest: a.longest.max(b.longest),
-        }
+        let shortest = a.shortest.min(b.shortest);
+        let longest = a.longest.max(b.longest);
+        Ends { shortest, longest }
     }
 }
 

@@ -1,6 +1,6 @@
 use mathlib.Core.Path.{_≡_}
 use lib.ListN.{drop}
-use Rattle.measures.specs.Measuring.{carried-from, carried}
+use Rattle.measures.specs.Measures.{carried-from, carried}
 use Rattle.measures.proofs.carry.Given as given
 
 -- what is carried along the whole word is what v is carried to along the rest

@@ -5,7 +5,7 @@ ghost use lib.ListN.{length, getD};
 ghost use Rattle.std.specs.Results.{Cases};
 ghost use Rattle.std.specs.declared.option.Option.the-variants.{Some, None};
 ghost use Rattle.bitset.specs.Sets.{meets, within};
-ghost use Rattle.measures.specs.Accepted.{Recognizes};
+ghost use Rattle.measures.specs.Acceptance.{Recognizes};
 ghost use Rattle.measures.specs.Automata.{state-sets};
 ghost use Rattle.measures.specs.Formats.{head-fault, pattern-fault, little-endian, states-in, labels-in, start-in, finals-in, PatternOf};
 use super::super::refusals::Fault;

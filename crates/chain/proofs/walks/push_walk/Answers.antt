@@ -5,7 +5,7 @@ use native.Mathlib.Omega.{arith}
 use lib.ListN.{getD, take}
 use Rattle.std.specs.Of.Vec.{vec-items}
 use Rattle.std.proofs.shelf.Lists.{take-all}
-use Rattle.measures.specs.Measuring.{carried}
+use Rattle.measures.specs.Measures.{carried}
 use Rattle.measures.specs.Words.{Word}
 use Rattle.measures.proofs.Carrying.{carried-take-more}
 use Rattle.chain.specs.Lines.{line-after, verdict-after}

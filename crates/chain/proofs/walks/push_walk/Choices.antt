@@ -2,9 +2,9 @@ use mathlib.Core.Path.{_≡_}
 use mathlib.Core.List.{[], _++_}
 use lib.ListN.{take}
 use Rattle.std.specs.Of.Vec.{vec-items}
-use Rattle.measures.specs.Measuring.{carried}
+use Rattle.measures.specs.Measures.{carried}
 use Rattle.measures.specs.Words.{Labels}
-use Rattle.chain.specs.Walking.{lines}
+use Rattle.chain.specs.Walks.{lines}
 use Rattle.chain.proofs.walks.push_walk.Given as given
 
 -- the first i labels are the judge's, `states` is what they come to, and their lines are written

@@ -5,6 +5,6 @@ pub returns : need.returns
 returns c =
     let m = c .args .self .now in
     record {
-      answer = c .is-subset .ensures .value;
+      answer = c .all-final .ensures;
       judges = shows-all (m .head .states) (m .head .labels) (m .head .start) (m .table) (m .head .«labels_counted») (m .head .«start_state») (m .complete) (m .head .finals);
     }

@@ -4,7 +4,7 @@ use mathlib.Core.List.{List, [], _∷_, _++_}
 use Prim.Native.Nat.{ℕ, _+_}
 use lib.Dec.{ltb, eqb}
 use lib.ListN.{length}
-use Rattle.measures.specs.Measuring.{Meaning, carried}
+use Rattle.measures.specs.Measures.{Meaning, carried}
 use Rattle.measures.specs.Words.{Word}
 use Rattle.chain.specs.declared.lines.Stop.the-variants.{UnknownLabel}
 use Rattle.chain.specs.Lines.{line-after, verdict-after, fault-after}

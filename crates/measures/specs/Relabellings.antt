@@ -5,7 +5,7 @@ use Prim.Native.Nat.{ℕ}
 use lib.Dec.{ltb}
 use lib.ListN.{getD}
 use Rattle.measures.specs.Words.{Letter, Word}
-use Rattle.measures.specs.Measuring.{Meaning}
+use Rattle.measures.specs.Measures.{Meaning}
 
 -- the inner label of l: its entry, or 0 where that is none of the n inner labels
 abbrev pub inner-label : List ℕ → ℕ → Letter → Letter

@@ -4,7 +4,7 @@ use mathlib.Core.Bool.{Bool}
 use mathlib.Core.List.{_∷_}
 use Rattle.std.specs.Orderings.{Decides}
 use Rattle.measures.specs.Words.{Letter, Word, Labels}
-use Rattle.measures.specs.Measuring.{Meaning, carried}
+use Rattle.measures.specs.Measures.{Meaning, carried}
 
 -- An answer goes through a join by `op`, and on the value carried along a non-empty word it is yes exactly when the word is good.
 pub record Judges {V : Type 0} (op : Bool → Bool → Bool) (m : Meaning V) (admits : V → Type 0) (answer : V → Bool) (good : Word → Type 0) : Type 0 where

@@ -6,7 +6,7 @@ use mathlib.Core.Logic.{_⊎_, _↔_}
 use Prim.Native.Nat.{ℕ, _^_}
 use Rattle.bitset.specs.Sets.{Member, has}
 use Rattle.measures.specs.Words.{Word, Labels}
-use Rattle.measures.specs.Measuring.{Meaning, Each, carried, joined}
+use Rattle.measures.specs.Measures.{Meaning, Each, carried, joined}
 use Rattle.measures.specs.Automata.{next, leads}
 use Rattle.measures.specs.Formats.{labels-in, start-in, finals-in, table-in}
 

@@ -3,7 +3,7 @@ use mathlib.Core.Bool.{cond}
 use Prim.Native.Nat.{ℕ, _+_, min, max}
 use lib.Dec.{ltb}
 use Rattle.measures.specs.declared.spans.Ends.{Ends}
-use Rattle.measures.specs.Measuring.{Meaning}
+use Rattle.measures.specs.Measures.{Meaning}
 
 abbrev pub ends : ℕ → ℕ → Ends
 ends a b = record { shortest = a; longest = b }
