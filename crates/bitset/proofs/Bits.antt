@@ -74,10 +74,5 @@ pub or-assoc : (a b c : ℕ) → bitOr (bitOr a b) c ≡ bitOr a (bitOr b c)
 or-assoc a b c =
     same-bits _ _ (λ q. omega (arith, bit-or (bitOr a b) c q, bit-or a b q, bit-or a (bitOr b c) q, bit-or b c q))
 
-pub and-or : (a b c : ℕ) → bitAnd (bitOr a b) c ≡ bitOr (bitAnd a c) (bitAnd b c)
-and-or a b c =
-    same-bits _ _
-    (λ q. omega (arith, bit-and (bitOr a b) c q, bit-or a b q, bit-or (bitAnd a c) (bitAnd b c) q, bit-and a c q, bit-and b c q))
-
 pub or-pos : (a b : ℕ) → 0 < a → 0 < bitOr a b
 or-pos a b h = omega (arith, or-add-and a b, and-le-r a b)

@@ -1,8 +1,8 @@
 -- What the operations on sets say of their members.
 use mathlib.Core.Path.{_≡_, refl, sym, ap, subst, _∙_}
 use mathlib.Core.Logic.{_⊎_, inl, inr}
-use mathlib.Core.Bool.{Bool, true, false, not, _||_, _&&_}
-use Prim.Native.Nat.{ℕ, zero, suc, _+_, _*_, _/_, _%_, _^_, _<_, _≤_, max, min}
+use mathlib.Core.Bool.{Bool, _||_}
+use Prim.Native.Nat.{ℕ, zero, suc, _+_, _*_, _/_, _%_, _^_, _<_}
 use native.Mathlib.Omega.{arith}
 use lib.Bits.{bitAnd, bitOr}
 use lib.Dec.{eqb, ltb, leb}
@@ -13,7 +13,7 @@ use Rattle.std.proofs.shelf.Tests.{cases-lt, eqb-true, eqb-false, eq-eqb, ne-eq
 use Rattle.std.proofs.shelf.Bits.{shr-split, mod-below}
 use Rattle.std.proofs.shelf.Ways.{tells}
 use Rattle.bitset.specs.Sets.{bit, Member, has, meets, within}
-use Rattle.bitset.proofs.Bits.{bit-below, bit-or, bit-and, bit-zero, bit-pow, bit-pow-self, bit-past, same-bits, same-bits-below, bit-half, lt-pow}
+use Rattle.bitset.proofs.Bits.{bit-below, bit-or, bit-and, bit-zero, bit-past, same-bits, bit-half, lt-pow}
 
 -- a bit is 0 or 1
 pub cases-bit : (set q : ℕ) → (bit set q ≡ 0) ⊎ Member q set

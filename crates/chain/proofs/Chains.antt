@@ -1,6 +1,5 @@
 -- The walk along a chain, one label after the other.
 use mathlib.Core.Path.{_≡_, refl, ap, ap₂, sym, subst, _∙_}
-use mathlib.Core.Logic.{_⊎_, inl, inr}
 use mathlib.Core.Bool.{Bool, true, false, cond}
 use mathlib.Core.List.{List, [], _∷_, _++_, append-assoc, append-nil}
 use Prim.Native.Nat.{ℕ, zero, suc, _+_, _<_, _≤_}
@@ -8,9 +7,8 @@ use native.Mathlib.Omega.{arith}
 use lib.Dec.{ltb, eqb}
 use lib.ListN.{length, getD, take, length-take, length-append}
 use Rattle.std.proofs.shelf.Lists.{take-more, take-all}
-use Rattle.std.proofs.shelf.Tests.{lt-ltb, le-ltb, ltb-true, eq-eqb, ne-eqb, eqb-true, cases-bool}
+use Rattle.std.proofs.shelf.Tests.{lt-ltb, le-ltb, ltb-true, eq-eqb, ne-eqb, eqb-true}
 use Rattle.measures.specs.Words.{Letter, Word, Labels}
-use Rattle.chain.specs.declared.lines.Stop.{Stop}
 use Rattle.chain.specs.declared.lines.Stop.the-variants.{UnknownLabel}
 use Rattle.chain.specs.Lines.{line-after, verdict-after, fault-after}
 use Rattle.chain.specs.Walks.{known, lines, last-line, walk}
@@ -63,36 +61,41 @@ module _ (f : Word → ℕ) where
 
   -- `base`, and then the lines of the first i labels
   module _ (base out : List ℕ) (w : Word) (i : ℕ) (is : out ≡ base ++ lines f [] (take i w)) where
-    pub lines-more : i < length w → line-after out (i + 1) (getD w i 0) (f (take (i + 1) w)) ≡ base ++ lines f [] (take (i + 1) w)
-    lines-more here =
+    pub lines-more : (after : List ℕ) (set : ℕ) → i < length w → after ≡ line-after out (i + 1) (getD w i 0) set → set ≡ f (take (i + 1) w) → after ≡ base ++ lines f [] (take (i + 1) w)
+    lines-more after set here line same =
         let l = getD w i 0 in
         let more = line-after [] (i + 1) l (f (take (i + 1) w)) in
         let push : lines f [] (take i w ++ l ∷ []) ≡ lines f [] (take i w) ++ line-after [] (i + 1) l (f (take i w ++ l ∷ [])) = lines-push [] (take i w) l (i + 1) (simp length-take (omega arith)) in
-        line-follows out (i + 1) l (f (take (i + 1) w))
+        line
+        ∙ ap (line-after out (i + 1) l) same
+        ∙ line-follows out (i + 1) l (f (take (i + 1) w))
         ∙ ap (λ (t : List ℕ). t ++ more) is
         ∙ append-assoc base (lines f [] (take i w)) more
         ∙ ap (λ (t : List ℕ). base ++ t) (subst (λ (v : Word). lines f [] (take i w) ++ line-after [] (i + 1) l (f v) ≡ lines f [] v) (sym (take-more w i 0 here)) (sym push))
 
     module _ (some all : Word → Bool) (n from : ℕ) (ls : Labels n (take i w)) where
-      pub walk-stops : i < length w → n ≤ getD w i 0 → fault-after out (UnknownLabel (from + i)) ≡ base ++ walk f some all n from w
-      walk-stops here h =
+      pub walk-stops : (after : List ℕ) → i < length w → n ≤ getD w i 0 → after ≡ fault-after out (UnknownLabel (from + i)) → after ≡ base ++ walk f some all n from w
+      walk-stops after here h line =
           let k = known-stops n w i here ls h in
           let short : length (known n w) ≡ i = ap length k ∙ simp length-take (omega arith) in
           let last : last-line some all n from w ≡ fault-after [] (UnknownLabel (from + i)) =
           ap (λ (t : Bool). cond t (verdict-after [] (some w) (all w)) (fault-after [] (UnknownLabel (from + length (known n w))))) (ne-eqb (length (known n w)) (length w) (λ e. omega arith))
           ∙ ap (λ (j : ℕ). fault-after [] (UnknownLabel (from + j))) short in
-          fault-follows out (UnknownLabel (from + i))
+          line
+          ∙ fault-follows out (UnknownLabel (from + i))
           ∙ ap (λ (t : List ℕ). t ++ fault-after [] (UnknownLabel (from + i))) is
           ∙ append-assoc base (lines f [] (take i w)) (fault-after [] (UnknownLabel (from + i)))
           ∙ ap₂ (λ (v : Word) (t : List ℕ). base ++ (lines f [] v ++ t)) (sym k) (sym last)
 
-      pub walk-ends : length w ≤ i → verdict-after out (some w) (all w) ≡ base ++ walk f some all n from w
-      walk-ends h =
+      pub walk-ends : (after : List ℕ) (yes-some yes-all : Bool) → length w ≤ i → after ≡ verdict-after out yes-some yes-all → yes-some ≡ some w → yes-all ≡ all w → after ≡ base ++ walk f some all n from w
+      walk-ends after yes-some yes-all h line es ea =
           let whole : take i w ≡ w = take-all i w h in
           let k = known-all n w (subst (Labels n) whole ls) in
           let last : last-line some all n from w ≡ verdict-after [] (some w) (all w) =
           ap (λ (t : Bool). cond t (verdict-after [] (some w) (all w)) (fault-after [] (UnknownLabel (from + length (known n w))))) (eq-eqb (length (known n w)) (length w) (ap length k)) in
-          verdict-follows out (some w) (all w)
+          line
+          ∙ ap₂ (verdict-after out) es ea
+          ∙ verdict-follows out (some w) (all w)
           ∙ ap (λ (t : List ℕ). t ++ verdict-after [] (some w) (all w)) is
           ∙ append-assoc base (lines f [] (take i w)) (verdict-after [] (some w) (all w))
           ∙ ap₂ (λ (v : Word) (t : List ℕ). base ++ (lines f [] v ++ t)) (whole ∙ sym k) (sym last)

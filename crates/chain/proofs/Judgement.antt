@@ -1,7 +1,7 @@
 -- The walk of a pattern that was read, in the words of its automaton.
-use mathlib.Core.Path.{_≡_, ap, sym, subst, _∙_}
+use mathlib.Core.Path.{_≡_, ap, sym, _∙_}
 use mathlib.Core.Bool.{Bool}
-use mathlib.Core.List.{List, [], _++_, append-assoc}
+use mathlib.Core.List.{List, _++_, append-assoc}
 use Prim.Native.Nat.{ℕ, _^_}
 use lib.Chars.{codes}
 use lib.ListN.{drop}
@@ -11,7 +11,7 @@ use Rattle.measures.specs.declared.refusals.Fault.{Fault}
 use Rattle.measures.specs.Acceptance.{state-after, accepts, Recognizes}
 use Rattle.measures.specs.Formats.{labels-in, pattern-fault}
 use Rattle.measures.specs.Measures.{Meaning, carried}
-use Rattle.measures.specs.Words.{Word, Labels}
+use Rattle.measures.specs.Words.{Word}
 use Rattle.chain.specs.declared.lines.Stop.the-variants.{BadPattern}
 use Rattle.chain.specs.Lines.{fault-after}
 use Rattle.chain.specs.Walks.{walk, walk-by}

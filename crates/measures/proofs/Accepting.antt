@@ -16,8 +16,8 @@ use Rattle.std.proofs.shelf.Ways.{same-from-decides, decides-at, decides-like, 
 use Rattle.bitset.specs.Sets.{Member, meets, within}
 use Rattle.bitset.proofs.Bits.{bit-pow, bit-pow-self, or-assoc, or-pos}
 use Rattle.bitset.proofs.Members.{member-or, or-member-left, or-member-right, meets-members, within-members}
-use Rattle.measures.specs.Words.{Letter, Word, Labels}
-use Rattle.measures.specs.Measures.{Meaning, Lawful, carried-from, carried}
+use Rattle.measures.specs.Words.{Word, Labels}
+use Rattle.measures.specs.Measures.{Lawful, carried-from, carried}
 use Rattle.measures.specs.Judges.{Judges}
 use Rattle.measures.specs.Automata.{next, leads, image, state-sets}
 use Rattle.measures.proofs.Images.{image-or, image-pow, image-below, image-pos}

@@ -1,9 +1,9 @@
 -- What the laws of a measure say along words and over lists of values.
 use mathlib.Core.Path.{_≡_, refl, ap, sym, _∙_}
-use mathlib.Core.List.{List, [], _∷_, _++_, map}
+use mathlib.Core.List.{[], _∷_, _++_, map}
 use Prim.Native.Nat.{ℕ, _+_, _<_, _≤_}
 use lib.ListN.{length, getD, take, drop}
-use Rattle.std.proofs.shelf.Lists.{at-drop-more, at-drop-all, take-more}
+use Rattle.std.proofs.shelf.Lists.{at-drop-more, at-drop-all, take-more, take-all}
 use Rattle.measures.specs.Words.{Letter, Word, Labels}
 use Rattle.measures.specs.Measures.{Meaning, Lawful, carried-from, carried, joined, Carries}
 
@@ -12,16 +12,23 @@ module _ {V : Type 0} (m : Meaning V) where
   pub carried-more : (v x : V) (w : Word) (i : ℕ) → i < length w → x ≡ m .step v (getD w i 0) → carried-from m v (drop i w) ≡ carried-from m x (drop (i + 1) w)
   carried-more v x w i h e = at-drop-more (carried-from m v) w i 0 h ∙ ap (λ (y : V). carried-from m y (drop (i + 1) w)) (sym e)
 
-  pub carried-all : (v : V) (w : Word) (i : ℕ) → length w ≤ i → carried-from m v (drop i w) ≡ v
-  carried-all v w i h = at-drop-all (carried-from m v) w i h
+  -- at the end of the word
+  pub carried-all : (v : V) (w : Word) (i : ℕ) → length w ≤ i → carried m w ≡ carried-from m v (drop i w) → v ≡ carried m w
+  carried-all v w i h e = sym (e ∙ at-drop-all (carried-from m v) w i h)
 
   carried-push : (v : V) (w : Word) (l : Letter) → carried-from m v (w ++ l ∷ []) ≡ m .step (carried-from m v w) l
   carried-push v [] l = refl
   carried-push v (x ∷ w) l = carried-push (m .step v x) w l
 
-  -- along one letter more of a word
-  pub carried-take-more : (w : Word) (i : ℕ) → i < length w → carried m (take (i + 1) w) ≡ m .step (carried m (take i w)) (getD w i 0)
-  carried-take-more w i h = ap (carried m) (take-more w i 0 h) ∙ carried-push (m .start) (take i w) (getD w i 0)
+  -- what is carried along the first letters of a word: one letter more, and all of them
+  pub carried-take-more : (v x : V) (w : Word) (i : ℕ) → i < length w → v ≡ carried m (take i w) → x ≡ m .step v (getD w i 0) → x ≡ carried m (take (i + 1) w)
+  carried-take-more v x w i h before step =
+      step
+      ∙ ap (λ (y : V). m .step y (getD w i 0)) before
+      ∙ sym (ap (carried m) (take-more w i 0 h) ∙ carried-push (m .start) (take i w) (getD w i 0))
+
+  pub carried-take-all : (v : V) (w : Word) (i : ℕ) → length w ≤ i → v ≡ carried m (take i w) → v ≡ carried m w
+  carried-take-all v w i h before = before ∙ ap (carried m) (take-all i w h)
 
   module _ (admits : V → Type 0) (laws : Lawful m admits) where
     pub carried-join : (a b : V) (w : Word) → admits a → admits b → Labels (m .labels) w → carried-from m (m .join a b) w ≡ m .join (carried-from m a w) (carried-from m b w)

@@ -1,13 +1,12 @@
 -- Images of sets: their members, and what they make of unions and of single numbers.
-use mathlib.Core.Path.{_≡_, refl, ap, sym, subst, _∙_}
+use mathlib.Core.Path.{_≡_, ap, sym, subst, _∙_}
 use mathlib.Core.Logic.{_⊎_, inl, inr, ⊎-elim}
-use mathlib.Core.Bool.{Bool, true, false, cond}
-use Prim.Native.Nat.{ℕ, zero, suc, _^_, _<_, _≤_}
+use mathlib.Core.Bool.{Bool, cond}
+use Prim.Native.Nat.{ℕ, zero, suc, _^_, _<_}
 use native.Mathlib.Omega.{arith}
 use lib.Bits.{bitOr}
-use lib.Dec.{ltb}
 use Rattle.std.proofs.shelf.Tests.{cases-lt, eq-eqb, ne-eqb, ltb-true, lt-ltb}
-use Rattle.bitset.specs.Sets.{bit, Member, has}
+use Rattle.bitset.specs.Sets.{bit, Member}
 use Rattle.bitset.proofs.Bits.{bit-zero, bit-pow, bit-pow-self}
 use Rattle.bitset.proofs.Members.{cases-bit, same-members, member-or, or-member-left, or-member-right, some-member, member-pos, below-members}
 use Rattle.measures.specs.Automata.{image, Image}

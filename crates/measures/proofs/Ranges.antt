@@ -1,18 +1,17 @@
 -- The span carried along a word, and what it shows.
-use mathlib.Core.Path.{_≡_, refl, ap, sym, _∙_}
-use mathlib.Core.Bool.{Bool, true, _||_, _&&_}
+use mathlib.Core.Path.{_≡_, ap, _∙_}
+use mathlib.Core.Bool.{Bool, _||_, _&&_}
 use mathlib.Core.Bool.{cond}
-use mathlib.Core.List.{List, [], _∷_}
-use Prim.Native.Nat.{ℕ, _+_, _≤_, _<_, min, max}
+use mathlib.Core.List.{[], _∷_}
+use Prim.Native.Nat.{ℕ, _+_, _≤_, min}
 use native.Mathlib.Omega.{arith}
-use lib.Dec.{ltb, leb}
+use lib.Dec.{leb}
 use lib.ListN.{length}
-use Rattle.std.specs.Orderings.{Decides}
 use Rattle.std.proofs.shelf.Tests.{lt-ltb, le-leb, leb-true}
 use Rattle.std.proofs.shelf.Ways.{tells, decides-at}
 use Rattle.measures.specs.declared.spans.Ends.{Ends}
 use Rattle.measures.specs.Words.{Word, Labels}
-use Rattle.measures.specs.Measures.{Meaning, carried-from, carried}
+use Rattle.measures.specs.Measures.{carried-from, carried}
 use Rattle.measures.specs.Judges.{Judges}
 use Rattle.measures.specs.Spans.{ends, longer, span}
 

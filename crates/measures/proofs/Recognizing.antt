@@ -2,19 +2,17 @@
 use mathlib.Core.Path.{_≡_, refl, ap, sym, subst, _∙_}
 use mathlib.Core.Logic.{_⊎_, inl, inr, ⊎-elim, _↔_}
 use mathlib.Core.Bool.{Bool}
-use mathlib.Core.List.{List, [], _∷_, _++_, map}
+use mathlib.Core.List.{List, [], _∷_, map}
 use Prim.Native.Nat.{ℕ, _+_, _-_, _*_, _^_, _<_, _≤_}
-use native.Mathlib.Omega.{arith}
 use lib.Bits.{bitOr}
-use lib.Dec.{eqb}
 use lib.ListN.{length, getD, replicate}
-use Rattle.std.proofs.shelf.Lists.{getD-append-left, getD-append-right, getD-replicate, getD-past, length-append, length-replicate}
+use Rattle.std.proofs.shelf.Lists.{getD-append-left, getD-append-right, getD-replicate, getD-past, length-replicate}
 use Rattle.std.proofs.shelf.Tests.{cases-lt}
 use Rattle.std.proofs.shelf.Ways.{same-from-decides, decides-eqb}
 use Rattle.bitset.specs.Sets.{bit, Member, has, meets, within}
 use Rattle.bitset.proofs.Members.{member-or, or-member-left, or-member-right}
 use Rattle.measures.specs.Words.{Letter, Word, Labels}
-use Rattle.measures.specs.Measures.{Meaning, Each, carried, joined}
+use Rattle.measures.specs.Measures.{Each, carried, joined}
 use Rattle.measures.specs.Automata.{next, leads, state-sets}
 use Rattle.measures.specs.Formats.{labels-in, table-in, padded, PatternOf}
 use Rattle.measures.specs.Acceptance.{state-after, accepts, Any, Recognizes}

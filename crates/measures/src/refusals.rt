@@ -1,6 +1,6 @@
 // Why a pattern, a relabelling or a measure is refused.
 ghost use mathlib.Core.Path.{_≡_};
-ghost use Rattle.measures.specs.Refusals.{number, counted};
+ghost use Rattle.measures.specs.Refusals.{number, fault, counted};
 
 #[derive(Clone, Copy, PartialEq, Eq, Debug)]
 pub enum Refusal {
@@ -21,6 +21,14 @@ pub enum Refusal {
 pub struct Fault {
     pub refusal: Refusal,
     pub place: usize,
+}
+
+impl Fault {
+    pub(crate) fn at(refusal: Refusal, place: usize) -> Fault
+        ensures { λ r. ⌜ r ≡ fault refusal place ⌝ }
+    {
+        Fault { refusal, place }
+    }
 }
 
 impl Refusal {

@@ -42,23 +42,14 @@ impl LabelTable {
         ensures { λ r. ⌜ Cases r (λ t. (relabelling-fault (now (input .entry)) at n ≡ None) × (t .count ≡ count-in (now (input .entry)) at) × (t .entries ≡ padded 64 (entries-in (now (input .entry)) at))) (λ f. relabelling-fault (now (input .entry)) at n ≡ Some f) ⌝ }
     {
         if at >= input.len() || input[at] != 0x30 {
-            return Err(Fault {
-                refusal: Refusal::NotARelabelling,
-                place: at,
-            });
+            return Err(Fault::at(Refusal::NotARelabelling, at));
         }
         if input.len() - at < 2 {
-            return Err(Fault {
-                refusal: Refusal::TableTooShort,
-                place: input.len(),
-            });
+            return Err(Fault::at(Refusal::TableTooShort, input.len()));
         }
         let count = input[at + 1];
         if !is_counted(count) {
-            return Err(Fault {
-                refusal: Refusal::LabelCount,
-                place: at + 1,
-            });
+            return Err(Fault::at(Refusal::LabelCount, at + 1));
         }
         let entries = read_table(input, at + 2, count as usize, n)?;
         Ok(LabelTable {

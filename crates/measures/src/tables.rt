@@ -27,18 +27,12 @@ pub(crate) fn read_table(input: &[u8], from: usize, count: usize, bound: u8) -> 
     ensures { λ r. ⌜ Cases r (λ t. (table-fault (now (input .entry)) from count bound ≡ None) × (now t ≡ take count (drop from (now (input .entry)))) × (length (now t) ≡ count) × ((k : ℕ) → k < count → getD (now t) k 0 < bound)) (λ f. table-fault (now (input .entry)) from count bound ≡ Some f) ⌝ }
 {
     if input.len() - from < count {
-        return Err(Fault {
-            refusal: Refusal::TableTooShort,
-            place: input.len(),
-        });
+        return Err(Fault::at(Refusal::TableTooShort, input.len()));
     }
     let table = &input[from..from + count];
     match first_too_large(table, bound) {
         None => Ok(table),
-        Some(i) => Err(Fault {
-            refusal: Refusal::EntryTooLarge,
-            place: from + i,
-        }),
+        Some(i) => Err(Fault::at(Refusal::EntryTooLarge, from + i)),
     }
 }
 

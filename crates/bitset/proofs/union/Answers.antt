@@ -1,5 +1,4 @@
 use mathlib.Core.Path.{_∙_, ap}
-use mathlib.Core.Bool.{Bool}
 use Prim.Native.Nat.{ℕ}
 use Rattle.bitset.specs.Sets.{has}
 use Rattle.bitset.proofs.Members.{has-or}

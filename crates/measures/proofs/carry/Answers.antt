@@ -1,4 +1,4 @@
-use mathlib.Core.Path.{sym, _∙_}
+use mathlib.Core.Path.{_∙_}
 use native.Mathlib.Omega.{arith}
 use Rattle.measures.proofs.Carrying.{carried-more, carried-all, carries}
 use Rattle.measures.proofs.carry.Needs as need
@@ -12,6 +12,6 @@ pub returns : need.returns
 returns g c =
     let m = g .M·Measure .meaning (c .args .m .now) in
     record {
-      value = sym (c .loop-l .inv ∙ carried-all m (c .loop-l .v) (c .args .word .now) (c .loop-l .l-index) (omega arith));
+      value = carried-all m (c .loop-l .v) (c .args .word .now) (c .loop-l .l-index) (omega arith) (c .loop-l .inv);
       carries = carries m (g .M·Measure .admits (c .args .m .now)) (g .M·Measure·met .lawful (c .args .m .now));
     }

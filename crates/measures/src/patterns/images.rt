@@ -1,9 +1,8 @@
 // Sets of states under one label of a table.
-ghost use mathlib.Core.Bool.{cond, _&&_};
+ghost use mathlib.Core.Bool.{cond};
 ghost use mathlib.Core.Path.{_≡_};
 ghost use Prim.Native.Nat.{ℕ, _*_, _^_, _<_, _≤_};
 ghost use lib.Bits.{bitOr};
-ghost use lib.Dec.{ltb};
 ghost use lib.ListN.{length, getD};
 ghost use Rattle.bitset.specs.Sets.{has};
 ghost use Rattle.measures.specs.Automata.{next, image, Image};

@@ -1,7 +1,7 @@
 // Patterns from bytes.
 ghost use mathlib.Core.Path.{_≡_};
-ghost use Prim.Native.Nat.{ℕ, _+_, _*_, _<_};
-ghost use lib.ListN.{length, getD};
+ghost use Prim.Native.Nat.{_+_, _*_, _<_};
+ghost use lib.ListN.{length};
 ghost use Rattle.std.specs.Results.{Cases};
 ghost use Rattle.std.specs.declared.option.Option.the-variants.{Some, None};
 ghost use Rattle.bitset.specs.Sets.{meets, within};
@@ -39,44 +39,26 @@ fn read_head(input: &[u8]) -> Result<Head, Fault>
     ensures { λ r. ⌜ Cases r (λ h. (head-fault (now (input .entry)) ≡ None) × (h .states ≡ states-in (now (input .entry))) × (h .labels ≡ labels-in (now (input .entry))) × (h .start ≡ start-in (now (input .entry))) × (h .finals ≡ finals-in (now (input .entry)))) (λ f. head-fault (now (input .entry)) ≡ Some f) ⌝ }
 {
     if input.len() < 12 {
-        return Err(Fault {
-            refusal: Refusal::PatternTooShort,
-            place: input.len(),
-        });
+        return Err(Fault::at(Refusal::PatternTooShort, input.len()));
     }
     if input[0] != 0x20 {
-        return Err(Fault {
-            refusal: Refusal::NotAPattern,
-            place: 0,
-        });
+        return Err(Fault::at(Refusal::NotAPattern, 0));
     }
     let states = input[1];
     if !is_counted(states) {
-        return Err(Fault {
-            refusal: Refusal::StateCount,
-            place: 1,
-        });
+        return Err(Fault::at(Refusal::StateCount, 1));
     }
     let labels = input[2];
     if !is_counted(labels) {
-        return Err(Fault {
-            refusal: Refusal::LabelCount,
-            place: 2,
-        });
+        return Err(Fault::at(Refusal::LabelCount, 2));
     }
     let start = input[3];
     if start >= states {
-        return Err(Fault {
-            refusal: Refusal::StartState,
-            place: 3,
-        });
+        return Err(Fault::at(Refusal::StartState, 3));
     }
     let finals = word_of(&input[4..12]);
     if !is_below(finals, states) {
-        return Err(Fault {
-            refusal: Refusal::FinalStates,
-            place: 4,
-        });
+        return Err(Fault::at(Refusal::FinalStates, 4));
     }
     Ok(Head {
         states,

@@ -1,8 +1,9 @@
-use mathlib.Core.Path.{_≡_, ap}
+use mathlib.Core.Path.{_≡_, ap, sym, _∙_}
 use mathlib.Core.List.{List}
-use Prim.Native.Nat.{ℕ, _+_, _-_, _≤_}
+use Prim.Native.Nat.{ℕ, _+_, _-_}
 use native.Mathlib.Omega.{arith}
 use lib.ListN.{take, drop}
+use Rattle.std.specs.declared.option.Option.the-variants.{Some}
 use Rattle.measures.proofs.Reading.{read-good, read-over}
 use Rattle.measures.proofs.tables.read_table.Needs as need
 
@@ -17,3 +18,4 @@ returns-in-None c =
 pub returns-in-Some : need.returns-in-Some
 returns-in-Some c =
     read-over (c .args .input .now) _ (c .args .from) (c .args .count) (c .args .bound) (omega arith) (cut (c .args .from) (c .args .count) (c .args .input .now)) (c .in-Some .i) (c .in-Some .ensures tt)
+    ∙ ap Some (sym (c .at-in-Some .ensures))

@@ -1,6 +1,5 @@
-use Prim.Native.Nat.{ℕ, _*_, _≤_, _<_}
+use Prim.Native.Nat.{ℕ, _*_, _≤_}
 use native.Mathlib.Omega.{arith}
-use lib.ListN.{getD}
 use Rattle.std.proofs.shelf.Bits.{mul-le}
 use Rattle.measures.proofs.Reading.{padded-complete, read-pattern}
 use Rattle.measures.proofs.Recognizing.{recognizes}

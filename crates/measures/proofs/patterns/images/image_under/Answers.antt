@@ -1,8 +1,7 @@
 use mathlib.Core.Path.{_≡_, ap, sym, subst, _∙_}
-use Prim.Native.Nat.{ℕ, _+_, _*_, _<_, _≤_}
+use Prim.Native.Nat.{ℕ, _+_, _*_, _<_}
 use native.Mathlib.Numerals.{add-one}
 use native.Mathlib.Omega.{arith}
-use lib.ListN.{length, getD}
 use Rattle.std.proofs.shelf.Bits.{mul-add-lt}
 use Rattle.measures.specs.Automata.{next, image, Image}
 use Rattle.measures.proofs.Images.{image-is}
