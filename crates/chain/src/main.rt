@@ -12,7 +12,10 @@ use std::io::Write;
 
 fn main(rt: LibcRuntime) -> io::Result<()> {
     let mut input = Vec::new(rt.alloc());
-    rt.stdin().take(65537).read_to_end(&mut input)?;
+    // one byte past the limit tells that there are too many
+    rt.stdin()
+        .take(reports::MOST_BYTES as u64 + 1)
+        .read_to_end(&mut input)?;
     let out = reports::report(rt.alloc(), &input)?;
     rt.stdout().write_all(&out)
 }

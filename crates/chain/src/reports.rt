@@ -14,6 +14,9 @@ use measures::patterns::PatternMeasure;
 use std::alloc::AllocError;
 use std::alloc::Global;
 
+// A longer input is not read.
+pub(crate) const MOST_BYTES: usize = 65536;
+
 // The fault of a bad pattern alone, or the header and the walk along the labels after the pattern.
 fn push_judged(out: &mut Vec<u8>, input: &[u8]) -> Result<(), AllocError>
     ensures { λ r. ⌜ made r (λ _. vec-items (now (out .exit)) ≡ vec-items (now (out .entry)) ++ judged (now (input .entry)) (pattern-fault (now (input .entry)))) ⌝ }
@@ -37,7 +40,7 @@ pub fn report(heap: Global, input: &[u8]) -> Result<Vec<u8>, AllocError>
     ensures { λ r. ⌜ made r (λ out. vec-items out ≡ report-on (now (input .entry))) ⌝ }
 {
     let mut out = Vec::new(heap);
-    if input.len() > 65536 {
+    if input.len() > MOST_BYTES {
         push_fault(&mut out, Stop::TooLong)?;
     } else {
         push_judged(&mut out, input)?;

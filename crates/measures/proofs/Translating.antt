@@ -1,14 +1,14 @@
 -- A relabelled measure makes of a word what the inner one makes of its translation.
-use mathlib.Core.Path.{_≡_, refl, ap, _∙_}
+use mathlib.Core.Path.{_≡_, refl, ap, ap₂, sym, _∙_}
 use mathlib.Core.Bool.{Bool, cond}
 use mathlib.Core.List.{List, [], _∷_}
-use Prim.Native.Nat.{ℕ, _<_}
+use Prim.Native.Nat.{ℕ, _<_, _≤_}
 use lib.Dec.{ltb}
 use lib.ListN.{getD}
-use Rattle.std.proofs.shelf.Tests.{lt-ltb, ltb-true, cond-both}
+use Rattle.std.proofs.shelf.Tests.{lt-ltb, le-ltb, ltb-true, cond-true, cond-false, cond-both}
 use Rattle.std.proofs.shelf.Ways.{decides-at}
 use Rattle.measures.specs.Words.{Letter, Word, Labels}
-use Rattle.measures.specs.Measures.{Meaning, carried-from}
+use Rattle.measures.specs.Measures.{Meaning, Lawful, carried-from}
 use Rattle.measures.specs.Judges.{Judges}
 use Rattle.measures.specs.Relabellings.{inner-label, translated, relabelled}
 
@@ -21,6 +21,24 @@ module _ (entries : List ℕ) (n : ℕ) (some : 0 < n) where
   translated-labels (l ∷ w) = (inner-label-below l, translated-labels w)
 
 module _ {V : Type 0} (entries : List ℕ) (count : ℕ) (m : Meaning V) where
+  -- the laws, from those of the inner measure alone
+  pub relabelled-lawful : (0 < count) × (count ≤ 64) → {admits : V → Type 0} → Lawful m admits → Lawful (relabelled entries count m) admits
+  relabelled-lawful counted {admits} laws = record {
+    counted = counted;
+    start-admitted = laws .start-admitted;
+    step-admitted = λ a l ha. cond-both (ltb l count) (m .step a (inner-label entries (m .labels) l)) a admits (λ _. laws .step-admitted a (inner-label entries (m .labels) l) ha) (λ _. ha);
+    join-admitted = laws .join-admitted;
+    unlabelled = λ a l h. cond-false (ltb l count) _ a (le-ltb l count h);
+    commutes = laws .commutes;
+    associates = laws .associates;
+    distributes = λ a b l ha hb h.
+        let below = inner-label-below entries (m .labels) (laws .counted .0) l in
+        let here = lt-ltb l count h in
+        cond-true (ltb l count) _ (m .join a b) here
+        ∙ laws .distributes a b (inner-label entries (m .labels) l) ha hb below
+        ∙ sym (ap₂ (m .join) (cond-true (ltb l count) _ a here) (cond-true (ltb l count) _ b here));
+  }
+
   carried-translated : (v : V) (w : Word) → Labels count w → carried-from (relabelled entries count m) v w ≡ carried-from m v (translated entries (m .labels) w)
   carried-translated v [] ls = refl
   carried-translated v (l ∷ w) ls =

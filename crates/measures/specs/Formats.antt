@@ -93,10 +93,14 @@ count-in b at = getD b (at + 1) 0
 abbrev pub entries-in : List ℕ → ℕ → List ℕ
 entries-in b at = take (count-in b at) (drop (at + 2) b)
 
--- What is wrong with the bytes of a relabelling to n inner labels.
-abbrev pub relabelling-fault : List ℕ → ℕ → ℕ → Option Fault
-relabelling-fault b at n =
+-- What is wrong with a relabelling's first two bytes.
+abbrev pub count-fault : List ℕ → ℕ → Option Fault
+count-fault b at =
     ask (ltb at (length b) && eqb (getD b at 0) 0x30) (fault NotARelabelling at)
     (ask (ltb (at + 1) (length b)) (fault TableTooShort (length b))
     (ask (counted (count-in b at)) (fault LabelCount (at + 1))
-    (table-fault b (at + 2) (count-in b at) n)))
+    None))
+
+-- What is wrong with the bytes of a relabelling to n inner labels.
+abbrev pub relabelling-fault : List ℕ → ℕ → ℕ → Option Fault
+relabelling-fault b at n = or-else (count-fault b at) (table-fault b (at + 2) (count-in b at) n)

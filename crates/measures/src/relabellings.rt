@@ -1,9 +1,12 @@
 // The relabelling: any measure, stepped by the labels that a table gives for its own.
+ghost use mathlib.Core.Bool.{_&&_};
 ghost use mathlib.Core.Path.{_≡_};
 ghost use Prim.Native.Nat.{_+_, _<_, _≤_};
+ghost use lib.Dec.{eqb, ltb};
+ghost use lib.ListN.{length, getD};
 ghost use Rattle.std.specs.Results.{Cases};
 ghost use Rattle.std.specs.declared.option.Option.the-variants.{Some, None};
-ghost use Rattle.measures.specs.Formats.{relabelling-fault, count-in, entries-in, padded};
+ghost use Rattle.measures.specs.Formats.{count-fault, relabelling-fault, count-in, entries-in, padded};
 ghost use Rattle.measures.specs.Relabellings.{inner-label, translated, relabelled};
 use super::Measure;
 use super::judges::Judge;
@@ -27,6 +30,13 @@ pub struct Relabelling<M: Measure> {
     inner: M,
 }
 
+// Whether the byte `at` of the input is there, and begins a relabelling.
+fn begins_at(input: &[u8], at: usize) -> bool
+    ensures { λ r. ⌜ r ≡ (ltb at (length (now (input .entry))) && eqb (getD (now (input .entry)) at 0) 0x30) ⌝ }
+{
+    at < input.len() && input[at] == 0x30
+}
+
 impl LabelTable {
     // The entry of l, or 0 where that is none of the n inner labels.
     fn inner_label(&self, l: u8, n: u8) -> u8
@@ -37,11 +47,11 @@ impl LabelTable {
         if entry < n { entry } else { 0 }
     }
 
-    // The table whose bytes begin at the byte `at` of the input.
-    fn read(input: &[u8], at: usize, n: u8) -> Result<LabelTable, Fault>
-        ensures { λ r. ⌜ Cases r (λ t. (relabelling-fault (now (input .entry)) at n ≡ None) × (t .count ≡ count-in (now (input .entry)) at) × (t .entries ≡ padded 64 (entries-in (now (input .entry)) at))) (λ f. relabelling-fault (now (input .entry)) at n ≡ Some f) ⌝ }
+    // The label count of the table whose bytes begin at the byte `at` of the input.
+    fn read_count(input: &[u8], at: usize) -> Result<u8, Fault>
+        ensures { λ r. ⌜ Cases r (λ n. (count-fault (now (input .entry)) at ≡ None) × (n ≡ count-in (now (input .entry)) at) × ((0 < n) × (n ≤ 64)) × (at + 2 ≤ length (now (input .entry)))) (λ f. count-fault (now (input .entry)) at ≡ Some f) ⌝ }
     {
-        if at >= input.len() || input[at] != 0x30 {
+        if !begins_at(input, at) {
             return Err(Fault::at(Refusal::NotARelabelling, at));
         }
         if input.len() - at < 2 {
@@ -51,6 +61,14 @@ impl LabelTable {
         if !is_counted(count) {
             return Err(Fault::at(Refusal::LabelCount, at + 1));
         }
+        Ok(count)
+    }
+
+    // The table whose bytes begin at the byte `at` of the input.
+    fn read(input: &[u8], at: usize, n: u8) -> Result<LabelTable, Fault>
+        ensures { λ r. ⌜ Cases r (λ t. (relabelling-fault (now (input .entry)) at n ≡ None) × (t .count ≡ count-in (now (input .entry)) at) × (t .entries ≡ padded 64 (entries-in (now (input .entry)) at))) (λ f. relabelling-fault (now (input .entry)) at n ≡ Some f) ⌝ }
+    {
+        let count = Self::read_count(input, at)?;
         let entries = read_table(input, at + 2, count as usize, n)?;
         Ok(LabelTable {
             entries: with_zeros(entries),
