@@ -77,7 +77,7 @@ module _ (states labels start : ℕ) (table : List ℕ) (counted : (0 < labels) 
         (λ t. (image-pos (next labels table l) states a (ha .0) (ha .1), image-below (next labels table l) states a states (λ q h. next-below l q (ltb-true l labels t) h)))
         ha;
     join-admitted = λ a b ha hb. (or-pos a b (ha .0), or-lt states a b (ha .1) (hb .1));
-    unlabelled = λ a l h. ap (λ (t : Bool). cond t (image (next labels table l) states a) a) (le-ltb l labels h);
+    unlabelled = λ a l h. ap (λ (t : Bool). cond t (image (next labels table l) states a) a) (le-ltb l labels (omega arith));
     commutes = λ a b _ _. or-comm a b;
     associates = λ a b c _ _ _. or-assoc a b c;
     distributes = λ a b l _ _ _. by-label (ltb l labels) _ a b _ _ (image-or (next labels table l) states a b);

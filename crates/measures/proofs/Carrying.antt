@@ -4,8 +4,8 @@ use mathlib.Core.List.{[], _∷_, _++_, map}
 use Prim.Native.Nat.{ℕ, _+_, _<_, _≤_}
 use lib.ListN.{length, getD, take, drop}
 use Rattle.std.proofs.shelf.Lists.{at-drop-more, at-drop-all, take-more, take-all}
-use Rattle.measures.specs.Words.{Letter, Word, Labels}
-use Rattle.measures.specs.Measures.{Meaning, Lawful, carried-from, carried, joined, Carries}
+use Rattle.measures.specs.Words.{Letter, Word}
+use Rattle.measures.specs.Measures.{Meaning, Spelled, Lawful, carried-from, carried, joined, Carries}
 
 module _ {V : Type 0} (m : Meaning V) where
   -- one letter further along a word
@@ -31,7 +31,7 @@ module _ {V : Type 0} (m : Meaning V) where
   carried-take-all v w i h before = before ∙ ap (carried m) (take-all i w h)
 
   module _ (admits : V → Type 0) (laws : Lawful m admits) where
-    pub carried-join : (a b : V) (w : Word) → admits a → admits b → Labels (m .labels) w → carried-from m (m .join a b) w ≡ m .join (carried-from m a w) (carried-from m b w)
+    pub carried-join : (a b : V) (w : Word) → admits a → admits b → Spelled m w → carried-from m (m .join a b) w ≡ m .join (carried-from m a w) (carried-from m b w)
     carried-join a b [] ha hb ls = refl
     carried-join a b (l ∷ w) ha hb ls =
         ap (λ (x : V). carried-from m x w) (laws .distributes a b l ha hb (ls .0))

@@ -3,6 +3,7 @@ use mathlib.Core.Path.{_≡_, refl, ap, ap₂, sym, _∙_}
 use mathlib.Core.Bool.{Bool, cond}
 use mathlib.Core.List.{List, [], _∷_}
 use Prim.Native.Nat.{ℕ, _<_, _≤_}
+use native.Mathlib.Omega.{arith}
 use lib.Dec.{ltb}
 use lib.ListN.{getD}
 use Rattle.std.proofs.shelf.Tests.{lt-ltb, le-ltb, ltb-true, cond-true, cond-false, cond-both}
@@ -28,7 +29,7 @@ module _ {V : Type 0} (entries : List ℕ) (count : ℕ) (m : Meaning V) where
     start-admitted = laws .start-admitted;
     step-admitted = λ a l ha. cond-both (ltb l count) (m .step a (inner-label entries (m .labels) l)) a admits (λ _. laws .step-admitted a (inner-label entries (m .labels) l) ha) (λ _. ha);
     join-admitted = laws .join-admitted;
-    unlabelled = λ a l h. cond-false (ltb l count) _ a (le-ltb l count h);
+    unlabelled = λ a l h. cond-false (ltb l count) _ a (le-ltb l count (omega arith));
     commutes = laws .commutes;
     associates = laws .associates;
     distributes = λ a b l ha hb h.

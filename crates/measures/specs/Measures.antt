@@ -11,17 +11,25 @@ pub record Meaning (V : Type 0) : Type 0 where
   pub step : V → Letter → V
   pub join : V → V → V
 
+-- l is a letter of the measure: a label below its count
+abbrev pub Fits : {V : Type 0} → Meaning V → Letter → Type 0
+Fits m l = l < m .labels
+
+-- each letter of the word is the measure's
+abbrev pub Spelled : {V : Type 0} → Meaning V → Word → Type 0
+Spelled m w = Labels (m .labels) w
+
 -- The laws of a measure, on the values that it admits.
 pub record Lawful {V : Type 0} (m : Meaning V) (admits : V → Type 0) : Type 0 where
   pub counted : (0 < m .labels) × (m .labels ≤ 64)
   pub start-admitted : admits (m .start)
   pub step-admitted : (a : V) (l : Letter) → admits a → admits (m .step a l)
   pub join-admitted : (a b : V) → admits a → admits b → admits (m .join a b)
-  -- a label that the measure does not have leaves the value
-  pub unlabelled : (a : V) (l : Letter) → m .labels ≤ l → m .step a l ≡ a
+  -- a letter that is not the measure's leaves the value
+  pub unlabelled : (a : V) (l : Letter) → (Fits m l → ⊥) → m .step a l ≡ a
   pub commutes : (a b : V) → admits a → admits b → m .join a b ≡ m .join b a
   pub associates : (a b c : V) → admits a → admits b → admits c → m .join (m .join a b) c ≡ m .join a (m .join b c)
-  pub distributes : (a b : V) (l : Letter) → admits a → admits b → l < m .labels → m .step (m .join a b) l ≡ m .join (m .step a l) (m .step b l)
+  pub distributes : (a b : V) (l : Letter) → admits a → admits b → Fits m l → m .step (m .join a b) l ≡ m .join (m .step a l) (m .step b l)
 
 -- v stepped by each letter of a word in turn
 abbrev pub carried-from : {V : Type 0} → Meaning V → V → Word → V
@@ -41,8 +49,8 @@ abbrev pub Each : {V : Type 0} → (V → Type 0) → List V → Type 0
 Each P [] = Unit {0}
 Each P (v ∷ vs) = P v × Each P vs
 
--- Carrying the join of any non-empty list of admitted values along any word of its labels is joining what each value is carried to.
+-- Carrying the join of any non-empty list of admitted values along any word of its letters is joining what each value is carried to.
 abbrev pub Carries : {V : Type 0} → Meaning V → (V → Type 0) → Type 0
 Carries {V} m admits =
-    (v : V) (vs : List V) (w : Word) → admits v → Each admits vs → Labels (m .labels) w
+    (v : V) (vs : List V) (w : Word) → admits v → Each admits vs → Spelled m w
     → carried-from m (joined m v vs) w ≡ joined m (carried-from m v w) (map (λ x. carried-from m x w) vs)
