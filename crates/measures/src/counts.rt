@@ -9,6 +9,7 @@ use super::Measure;
 use super::refusals::Refusal;
 use super::refusals::is_counted;
 
+// A flow count over some labels; its value is capped at 4,294,967,295.
 #[derive(Clone, Copy)]
 pub struct FlowCount {
     labels: u8,
@@ -16,6 +17,7 @@ pub struct FlowCount {
 }
 
 impl FlowCount {
+    // Refuses a label count outside 1 to 64.
     pub fn new(labels: u8) -> Result<FlowCount, Refusal>
         ensures { λ r. ⌜ Cases r (λ m. (count-refusal labels ≡ None) × (m .labels ≡ labels)) (λ e. count-refusal labels ≡ Some e) ⌝ }
     {

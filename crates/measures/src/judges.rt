@@ -6,18 +6,20 @@ ghost use Rattle.measures.specs.Words.{Word};
 use super::Measure;
 
 pub trait Judge: Measure {
+    // the words that it means
     ghost good: { Self → Word → Type 0 };
 
+    // its two answers
     ghost someOf: { Self → Self·Value → Bool };
 
     ghost allOf: { Self → Self·Value → Bool };
 
-    // Whether some word is good.
+    // Whether some word that v stands for is good.
     fn some(&self, v: Self::Value) -> bool
         ensures answer { λ r. ⌜ r ≡ someOf (now (self .entry)) v ⌝ }
         ensures judges { λ _. ⌜ Judges _||_ (Self·Measure .meaning (now (self .entry))) (Self·Measure .admits (now (self .entry))) (someOf (now (self .entry))) (good (now (self .entry))) ⌝ };
 
-    // Whether each word is good.
+    // Whether each word that v stands for is good.
     fn all(&self, v: Self::Value) -> bool
         ensures answer { λ r. ⌜ r ≡ allOf (now (self .entry)) v ⌝ }
         ensures judges { λ _. ⌜ Judges _&&_ (Self·Measure .meaning (now (self .entry))) (Self·Measure .admits (now (self .entry))) (allOf (now (self .entry))) (good (now (self .entry))) ⌝ };

@@ -26,8 +26,10 @@ pub use spans::Span;
 pub trait Measure {
     type Value: Copy;
 
+    // the four things that it offers
     ghost meaning: { Self → Meaning Self·Value };
 
+    // the values on which it is lawful
     ghost admits: { Self → Self·Value → Type 0 };
 
     law lawful: { (m : Self) → Lawful (meaning m) (admits m) };

@@ -29,7 +29,7 @@ struct Head {
     ghost final_states: { finals < 2 ^ states },
 }
 
-// The table has a row of next states for each state, one for each label; what lies past it is 0.
+// A pattern, always complete: the table has a row for each state, with a next state for each label; what lies past it is 0.
 #[derive(Clone, Copy)]
 pub struct Pattern {
     head: Head,

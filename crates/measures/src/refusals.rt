@@ -2,17 +2,28 @@
 ghost use mathlib.Core.Path.{_≡_};
 ghost use Rattle.measures.specs.Refusals.{number, fault, counted};
 
+// The answers no, in the order of their numbers.
 #[derive(Clone, Copy, PartialEq, Eq, Debug)]
 pub enum Refusal {
+    // fewer than twelve bytes
     PatternTooShort,
+    // the first byte is not 0x20
     NotAPattern,
+    // the number of states is not from 1 to 64
     StateCount,
+    // the number of labels is not from 1 to 64
     LabelCount,
+    // the start state is no state
     StartState,
+    // a final state is no state
     FinalStates,
+    // bytes of a table, or a relabelling's count, are missing
     TableTooShort,
+    // an entry of a table is no state, or no inner label
     EntryTooLarge,
+    // the limit is above 65,534
     SpanLimit,
+    // the first byte is missing, or not 0x30
     NotARelabelling,
 }
 
@@ -32,6 +43,7 @@ impl Fault {
 }
 
 impl Refusal {
+    // The number by which reports and documents name the refusal.
     pub fn number(self) -> u8
         ensures { λ r. ⌜ r ≡ number self ⌝ }
     {

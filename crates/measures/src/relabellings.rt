@@ -24,6 +24,7 @@ struct LabelTable {
     ghost counted: { (0 < count) × (count ≤ 64) },
 }
 
+// An inner measure under other labels; over a judge it is a judge, of translated words.
 #[derive(Clone, Copy)]
 pub struct Relabelling<M: Measure> {
     table: LabelTable,

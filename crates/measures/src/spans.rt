@@ -12,12 +12,14 @@ use super::judges::Judge;
 use super::refusals::Refusal;
 use super::refusals::is_counted;
 
+// The numbers of marks of the shortest and of the longest flow, at most 65,535 each.
 #[derive(Clone, Copy, PartialEq, Eq, Debug)]
 pub struct Ends {
     pub shortest: u16,
     pub longest: u16,
 }
 
+// A span with a limit: a word is good if it has at most `limit` labels. The limit lies below the cap, so the capped ends decide it.
 #[derive(Clone, Copy)]
 pub struct Span {
     labels: u8,
@@ -27,6 +29,7 @@ pub struct Span {
 }
 
 impl Span {
+    // Refuses a label count outside 1 to 64, and then a limit above 65,534.
     pub fn new(labels: u8, limit: u16) -> Result<Span, Refusal>
         ensures { λ r. ⌜ Cases r (λ m. (span-refusal labels limit ≡ None) × (m .labels ≡ labels) × (m .limit ≡ limit)) (λ e. span-refusal labels limit ≡ Some e) ⌝ }
     {
