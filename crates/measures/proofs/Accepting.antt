@@ -26,7 +26,7 @@ use Rattle.measures.proofs.Images.{image-or, image-pow, image-below, image-pos
 pub only-member : (q k : ℕ) → Member k (2 ^ q) ↔ (q ≡ k)
 only-member q k = (bit-pow q k, λ e. subst (λ (j : ℕ). Member j (2 ^ q)) e (bit-pow-self q))
 
-meets-or : (f a b : ℕ) → meets (bitOr a b) f ≡ (meets a f || meets b f)
+pub meets-or : (f a b : ℕ) → meets (bitOr a b) f ≡ (meets a f || meets b f)
 meets-or f a b =
     same-from-decides _ _ (meets-members (bitOr a b) f)
     (decides-like (meets a f || meets b f)
@@ -34,7 +34,7 @@ meets-or f a b =
     (λ p. ⊎-elim (λ i. inl (p .0, i, p .2)) (λ i. inr (p .0, i, p .2)) (member-or a b (p .0) (p .1)))
     (decides-or (meets a f) (meets b f) (meets-members a f) (meets-members b f)))
 
-within-or : (f a b : ℕ) → within (bitOr a b) f ≡ (within a f && within b f)
+pub within-or : (f a b : ℕ) → within (bitOr a b) f ≡ (within a f && within b f)
 within-or f a b =
     same-from-decides _ _ (within-members (bitOr a b) f)
     (decides-like (within a f && within b f)
@@ -97,16 +97,11 @@ module _ (states labels start : ℕ) (table : List ℕ) (counted : (0 < labels) 
   pub carried-one : (w : Word) → Labels labels w → carried (state-sets states labels start table) w ≡ 2 ^ leads (next labels table) start w
   carried-one w ls = carried-pow start w begins ls
 
-  -- the accepted words are the good ones
-  module _ (finals : ℕ) {admits : ℕ → Type 0} where
-    pub shows-some : Judges _||_ (state-sets states labels start table) admits (λ set. meets set finals) (λ w. Member (leads (next labels table) start w) finals)
-    shows-some = record {
-      joins = λ a b _ _. meets-or finals a b;
-      decides = λ l w ls. decides-at _ _ (ap (λ (set : ℕ). meets set finals) (carried-one (l ∷ w) ls)) (meets-one finals (leads (next labels table) start (l ∷ w)));
-    }
-
-    pub shows-all : Judges _&&_ (state-sets states labels start table) admits (λ set. within set finals) (λ w. Member (leads (next labels table) start w) finals)
-    shows-all = record {
-      joins = λ a b _ _. within-or finals a b;
-      decides = λ l w ls. decides-at _ _ (ap (λ (set : ℕ). within set finals) (carried-one (l ∷ w) ls)) (within-one finals (leads (next labels table) start (l ∷ w)));
-    }
+  -- An answer that goes through unions, and says of one state whether it is final, is yes exactly on the accepted words.
+  pub shows-accepted : (finals : ℕ) (op : Bool → Bool → Bool) (answer : ℕ → Bool) {admits : ℕ → Type 0}
+      → ((a b : ℕ) → answer (bitOr a b) ≡ op (answer a) (answer b)) → ((q : ℕ) → Decides (answer (2 ^ q)) (Member q finals))
+      → Judges op (state-sets states labels start table) admits answer (λ w. Member (leads (next labels table) start w) finals)
+  shows-accepted finals op answer joins one = record {
+    joins = λ a b _ _. joins a b;
+    decides = λ l w ls. decides-at _ _ (ap answer (carried-one (l ∷ w) ls)) (one (leads (next labels table) start (l ∷ w)));
+  }
