@@ -5,6 +5,7 @@ use mathlib.Core.List.{List, [], _∷_, _++_}
 use Prim.Native.Nat.{ℕ, zero, suc, _+_, _-_, _*_, _<_, _≤_}
 use native.Mathlib.Omega.{arith}
 use lib.ListN.{length, getD, set, take, drop, replicate, length-take, length-drop}
+use Rattle.std.specs.Options.{mapped}
 use Rattle.std.specs.declared.option.Option.{Option}
 use Rattle.std.specs.declared.option.Option.the-variants.{Some, None}
 use Rattle.std.proofs.shelf.Lists.{append-assoc, getD-append-left, set-at, take-more, take-all}
@@ -12,22 +13,22 @@ use Rattle.std.proofs.shelf.Tests.{lt-ltb, le-ltb, le-leb}
 use Rattle.measures.specs.declared.refusals.Fault.{Fault}
 use Rattle.measures.specs.declared.refusals.Refusal.the-variants.{TableTooShort, EntryTooLarge}
 use Rattle.measures.specs.Refusals.{fault, ask}
-use Rattle.measures.specs.Formats.{one-further, first-over, over-fault, table-fault, or-else, padded, head-fault, pattern-fault, states-in, labels-in, start-in, finals-in, table-in, PatternOf}
+use Rattle.measures.specs.Formats.{first-over, over-fault, table-fault, or-else, padded, head-fault, pattern-fault, states-in, labels-in, start-in, finals-in, table-in, PatternOf}
 
 module _ (bound : ℕ) where
   -- where all entries are below the bound there is no first that is not
   pub first-over-none : (xs : List ℕ) → ((k : ℕ) → k < length xs → getD xs k 0 < bound) → first-over bound xs ≡ None
   first-over-none [] h = refl
   first-over-none (x ∷ xs) h =
-      ap (λ (t : Bool). cond t (one-further (first-over bound xs)) (Some 0)) (lt-ltb x bound (h 0 (omega arith)))
-      ∙ ap one-further (first-over-none xs (λ k l. h (suc k) (omega arith)))
+      ap (λ (t : Bool). cond t (mapped suc (first-over bound xs)) (Some 0)) (lt-ltb x bound (h 0 (omega arith)))
+      ∙ ap (mapped suc) (first-over-none xs (λ k l. h (suc k) (omega arith)))
 
   pub first-over-some : (xs : List ℕ) (i : ℕ) → i < length xs → bound ≤ getD xs i 0 → ((k : ℕ) → k < i → getD xs k 0 < bound) → first-over bound xs ≡ Some i
   first-over-some [] i l b h = absurd (omega arith)
-  first-over-some (x ∷ xs) zero l b h = ap (λ (t : Bool). cond t (one-further (first-over bound xs)) (Some 0)) (le-ltb x bound b)
+  first-over-some (x ∷ xs) zero l b h = ap (λ (t : Bool). cond t (mapped suc (first-over bound xs)) (Some 0)) (le-ltb x bound b)
   first-over-some (x ∷ xs) (suc i) l b h =
-      ap (λ (t : Bool). cond t (one-further (first-over bound xs)) (Some 0)) (lt-ltb x bound (h 0 (omega arith)))
-      ∙ ap one-further (first-over-some xs i (omega arith) b (λ k m. h (suc k) (omega arith)))
+      ap (λ (t : Bool). cond t (mapped suc (first-over bound xs)) (Some 0)) (lt-ltb x bound (h 0 (omega arith)))
+      ∙ ap (mapped suc) (first-over-some xs i (omega arith) b (λ k m. h (suc k) (omega arith)))
 
 -- The `count` bytes t of b from `from` on.
 module _ (b t : List ℕ) (from count bound : ℕ) (here : from + count ≤ length b) (is : t ≡ take count (drop from b)) where

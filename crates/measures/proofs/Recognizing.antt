@@ -9,10 +9,11 @@ use lib.ListN.{length, getD, replicate}
 use Rattle.std.proofs.shelf.Lists.{getD-append-left, getD-append-right, getD-replicate, getD-past, length-replicate}
 use Rattle.std.proofs.shelf.Tests.{cases-lt}
 use Rattle.std.proofs.shelf.Ways.{same-from-decides, decides-eqb}
+use Rattle.std.specs.shelf.Lists.{All}
 use Rattle.bitset.specs.Sets.{bit, Member, has, meets, within}
 use Rattle.bitset.proofs.Members.{member-or, or-member-left, or-member-right}
 use Rattle.measures.specs.Words.{Letter, Word, Labels}
-use Rattle.measures.specs.Measures.{Each, carried, joined}
+use Rattle.measures.specs.Measures.{carried, joined}
 use Rattle.measures.specs.Automata.{next, leads, state-sets}
 use Rattle.measures.specs.Formats.{labels-in, table-in, padded, PatternOf}
 use Rattle.measures.specs.Acceptance.{state-after, accepts, Any, Recognizes}
@@ -54,7 +55,7 @@ module _ (b : List ℕ) (states labels start finals : ℕ) (table : List ℕ) (p
   member w ls q = subst (λ (set : ℕ). Member q set ↔ (state-after b w ≡ q)) (sym (one w ls)) (only-member (state-after b w) q)
 
   -- the members of a join that begins with a set, and then has the sets of words
-  joined-member : (set : ℕ) (ws : List Word) → Each (Labels (labels-in b)) ws → (q : ℕ)
+  joined-member : (set : ℕ) (ws : List Word) → All (Labels (labels-in b)) ws → (q : ℕ)
       → Member q (joined (state-sets states labels start table) set (map (carried (state-sets states labels start table)) ws)) ↔ (Member q set ⊎ Any (λ v. state-after b v ≡ q) ws)
   joined-member set [] ls q = (inl, ⊎-elim (λ m. m) (λ n. absurd n))
   joined-member set (w ∷ ws) ls q =

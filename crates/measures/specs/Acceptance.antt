@@ -4,9 +4,10 @@ use mathlib.Core.Bool.{Bool}
 use mathlib.Core.List.{List, [], _∷_, map}
 use mathlib.Core.Logic.{_⊎_, _↔_}
 use Prim.Native.Nat.{ℕ, _^_}
+use Rattle.std.specs.shelf.Lists.{All}
 use Rattle.bitset.specs.Sets.{Member, has}
 use Rattle.measures.specs.Words.{Word, Labels}
-use Rattle.measures.specs.Measures.{Meaning, Each, carried, joined}
+use Rattle.measures.specs.Measures.{Meaning, carried, joined}
 use Rattle.measures.specs.Automata.{next, leads}
 use Rattle.measures.specs.Formats.{labels-in, start-in, finals-in, table-in}
 
@@ -29,7 +30,7 @@ pub record Recognizes (b : List ℕ) (m : Meaning ℕ) (some all : ℕ → Bool)
   -- the set carried along a word holds just the state to which the word leads
   pub one : (w : Word) → Labels (labels-in b) w → carried m w ≡ 2 ^ state-after b w
   -- the union over a non-empty list of words holds exactly the states to which they lead
-  pub union : (w : Word) (ws : List Word) → Each (Labels (labels-in b)) (w ∷ ws) → (q : ℕ)
+  pub union : (w : Word) (ws : List Word) → All (Labels (labels-in b)) (w ∷ ws) → (q : ℕ)
       → Member q (joined m (carried m w) (map (carried m) ws)) ↔ Any (λ v. state-after b v ≡ q) (w ∷ ws)
   -- of one word, both answers say whether it is accepted
   pub some-is : (w : Word) → Labels (labels-in b) w → some (carried m w) ≡ accepts b w

@@ -5,20 +5,17 @@ use mathlib.Core.List.{List, [], _∷_, _++_}
 use Prim.Native.Nat.{ℕ, suc, _+_, _-_, _*_, _^_}
 use lib.Dec.{leb, ltb, eqb}
 use lib.ListN.{length, getD, take, drop, replicate}
+use Rattle.std.specs.Options.{mapped}
 use Rattle.std.specs.declared.option.Option.{Option}
 use Rattle.std.specs.declared.option.Option.the-variants.{Some, None}
 use Rattle.measures.specs.declared.refusals.Fault.{Fault}
 use Rattle.measures.specs.declared.refusals.Refusal.the-variants.{PatternTooShort, NotAPattern, StateCount, LabelCount, StartState, FinalStates, TableTooShort, EntryTooLarge, NotARelabelling}
 use Rattle.measures.specs.Refusals.{fault, ask, counted}
 
-abbrev pub one-further : Option ℕ → Option ℕ
-one-further None = None
-one-further (Some i) = Some (suc i)
-
 -- the place of the first entry that is not below the bound
 abbrev pub first-over : ℕ → List ℕ → Option ℕ
 first-over bound [] = None
-first-over bound (x ∷ xs) = cond (ltb x bound) (one-further (first-over bound xs)) (Some 0)
+first-over bound (x ∷ xs) = cond (ltb x bound) (mapped suc (first-over bound xs)) (Some 0)
 
 abbrev pub over-fault : ℕ → Option ℕ → Option Fault
 over-fault from None = None

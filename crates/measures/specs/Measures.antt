@@ -2,6 +2,7 @@
 use mathlib.Core.Path.{_≡_}
 use mathlib.Core.List.{List, [], _∷_, map}
 use Prim.Native.Nat.{ℕ, _<_, _≤_}
+use Rattle.std.specs.shelf.Lists.{All}
 use Rattle.measures.specs.Words.{Letter, Word, Labels}
 
 -- A measure offers a number of labels, a start value, a step from a value by a letter, and a join of two values.
@@ -45,12 +46,8 @@ abbrev pub joined : {V : Type 0} → Meaning V → V → List V → V
 joined m v [] = v
 joined m v (x ∷ xs) = joined m (m .join v x) xs
 
-abbrev pub Each : {V : Type 0} → (V → Type 0) → List V → Type 0
-Each P [] = Unit {0}
-Each P (v ∷ vs) = P v × Each P vs
-
 -- Carrying the join of any non-empty list of admitted values along any word of its letters is joining what each value is carried to.
 abbrev pub Carries : {V : Type 0} → Meaning V → (V → Type 0) → Type 0
 Carries {V} m admits =
-    (v : V) (vs : List V) (w : Word) → admits v → Each admits vs → Spelled m w
+    (v : V) (vs : List V) (w : Word) → admits v → All admits vs → Spelled m w
     → carried-from m (joined m v vs) w ≡ joined m (carried-from m v w) (map (λ x. carried-from m x w) vs)

@@ -1,6 +1,7 @@
 -- Words of labels.
-use mathlib.Core.List.{List, [], _∷_}
+use mathlib.Core.List.{List}
 use Prim.Native.Nat.{ℕ, _<_}
+use Rattle.std.specs.shelf.Lists.{All}
 
 -- A letter is what a word says of one mark: the mark's label.
 abbrev pub Letter : Type 0
@@ -11,5 +12,4 @@ Word = List Letter
 
 -- each letter of the word is a label below n
 abbrev pub Labels : ℕ → Word → Type 0
-Labels n [] = Unit {0}
-Labels n (l ∷ w) = (l < n) × Labels n w
+Labels n w = All (λ l. l < n) w
