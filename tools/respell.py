@@ -5,7 +5,8 @@ usage: python3 tools/respell.py        at the top of the repository, once
 
 In specs/ and proofs/, and in the ghost parts of src/, each name with a hyphen that no library declares is respelled:
 `value-is` becomes `value_is`, `Law-of-runs` becomes `LawOfRuns`. Comments, strings and the code of src/ stay as they are.
-Two names of one file that would fall together are reported and left.
+What the check itself names, the goals and steps that answers and invariants speak of, keeps its hyphens.
+Two names of one file that would fall together are reported.
 """
 
 import os
@@ -51,8 +52,23 @@ def imports(text, crates):
     return {it.strip() for it in found}
 
 
-def turned(path, text, crates):
+def declared():
+    """The names that the specs and the lemma files declare."""
+    found = set()
+    for path in files((".antt",)):
+        if not path.endswith(("/Answers.antt", "/Invariants.antt")):
+            with open(path, encoding="utf-8") as file:
+                for line in file:
+                    m = re.match(r"\s*(?:(?:pub|abbrev|record|data)\s+)*((?:%s\s+)+)[:({]" % NAME.pattern, line)
+                    if m:
+                        found.update(m.group(1).split())
+    return found
+
+
+def turned(path, text, crates, own):
     kept = imports(text, crates)
+    if path.endswith(("/Answers.antt", "/Invariants.antt")):
+        kept |= {it for it in NAME.findall(text) if it not in own}
     here = LIBRARY.get(path, {})
     seen = {}
 
@@ -76,19 +92,24 @@ def turned(path, text, crates):
     return "\n".join(lines)
 
 
+def files(endings):
+    for folder, dirs, names in os.walk("crates"):
+        dirs[:] = sorted(d for d in dirs if d != "out")
+        for name in sorted(names):
+            if name.endswith(endings):
+                yield os.path.join(folder, name)
+
+
 def main():
     crates = sorted(os.listdir("crates"))
-    for folder, dirs, files in os.walk("crates"):
-        dirs[:] = sorted(d for d in dirs if d != "out")
-        for f in sorted(files):
-            if f.endswith((".rt", ".antt")):
-                path = os.path.join(folder, f)
-                with open(path, encoding="utf-8") as file:
-                    text = file.read()
-                new = turned(path, text, crates)
-                if new != text:
-                    with open(path, "w", encoding="utf-8") as file:
-                        file.write(new)
+    own = declared()
+    for path in files((".rt", ".antt")):
+        with open(path, encoding="utf-8") as file:
+            text = file.read()
+        new = turned(path, text, crates, own)
+        if new != text:
+            with open(path, "w", encoding="utf-8") as file:
+                file.write(new)
 
 
 main()

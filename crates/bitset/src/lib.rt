@@ -1,4 +1,6 @@
 // Sets of the numbers 0 to 63, each one word: number q is in the set exactly when bit q of the word is 1.
+#![tactic(auto)]
+
 ghost use Rattle.std.specs.Prelude.{◌≡◌, ℕ, ◌^◌, ◌<◌, ◌&&◌, ◌||◌, ltb, if◌then◌else◌, Decides, bit_or, nat_lt};
 ghost use Rattle.bitset.specs.Sets.{Member, has, meets, within};
 

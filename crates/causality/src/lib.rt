@@ -1,5 +1,7 @@
 // Clocks and predecessors: rows of what each unit knows of the others, and what stamps say of the order of marks. No measure occurs here.
 // A unit is one process of a handset, a mark an event that it shows; what the terms mean and the law over runs stand in `history`.
+#![tactic(auto)]
+
 pub mod merging;
 pub mod stamps;
 

@@ -1,5 +1,7 @@
 // Judges one chain of marks: reads a pattern and the labels of the chain from standard input, and prints
 // the state after each mark and whether the chain fits the pattern.
+#![tactic(auto)]
+
 mod lines;
 mod reports;
 #[cfg(test)]

@@ -1,6 +1,8 @@
 // Rows of cells, one after another, in memory that the caller lends.
 // One grid type serves clocks, flags and values of every kind; row r is the part that begins at cell r * width.
 // A call for a row or a column that is not there answers false or None, and changes nothing.
+#![tactic(auto)]
+
 ghost use Rattle.std.specs.Prelude.{◌≡◌, ◌+◌, ◌*◌, ◌<◌, ◌≤◌, ◌&&◌, length, replicate, if◌then◌else◌, None, nat_lt, slice_index_or, slice_set};
 ghost use Rattle.std.proofs.Math.Seq.{paste};
 ghost use Rattle.std.specs.List.{slice_get};

@@ -1,4 +1,6 @@
 // What the units of a handset did and in which causal order, the rules by which a board follows it, and the law over whole runs.
+#![tactic(auto)]
+
 pub mod laws;
 pub mod messages;
 pub mod precedence;

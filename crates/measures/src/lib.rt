@@ -1,6 +1,8 @@
 // Measures of the flows that end at a mark, judges of their words, the law of runs under them, and the values of rows.
 // A unit is one process of a handset; a mark is an event that it shows, with a label;
 // a flow is a chain of marks, each an immediate predecessor of the next, and its word is the list of their labels.
+#![tactic(auto)]
+
 ghost use Rattle.std.specs.Prelude.{◌≡◌};
 ghost use Rattle.measures.specs.Laws.{LawOfRuns};
 ghost use Rattle.measures.specs.Measures.{Meaning, Lawful, carried, Carries};

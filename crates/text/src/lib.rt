@@ -1,4 +1,5 @@
 // Numbers as text, appended to a growing buffer of bytes. Nothing is allocated but by the buffer's own growth.
+#![tactic(auto)]
 
 ghost use Rattle.std.specs.Prelude.{◌≡◌, ◌+◌, ◌%◌, ◌<◌, ◌≤◌, ◌++◌, length, is_ok, if◌then◌else◌, decimal};
 ghost use Rattle.std.specs.List.{between};

@@ -2,5 +2,5 @@ use Rattle.std.proofs.Common.{◌≡◌, replicate}
 use lib.Seq.{paste}
 use Rattle.grid.proofs.reset.Given as goal
 
-abbrev pub invariant_loop_i : goal.invariant_loop_i
-invariant_loop_i g l = l.part ≡ paste l.initial.part 0 (replicate l.n l.v) l.i
+abbrev pub invariant-loop-i : goal.invariant-loop-i
+invariant-loop-i g l = l.part ≡ paste l.initial.part 0 (replicate l.n l.v) l.i

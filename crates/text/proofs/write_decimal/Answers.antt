@@ -5,27 +5,27 @@ use Rattle.std.proofs.lemmas.Slice.{between_to_end}
 use Rattle.text.proofs.Decimal.{decimal_only, decimal_last}
 use Rattle.text.proofs.write_decimal.Goals as goal
 
-pub loop_rest_init : goal.loop_rest_init
-loop_rest_init c =
+pub loop-rest-init : goal.loop-rest-init
+loop-rest-init c =
     let none = drop_all 20 c.args.digits.now (omega arith) in
     let room = length-decimal-le 20 c.args.n (omega arith) (omega arith) (omega arith) in
     (omega arith, omega arith, omega arith, room, simp (none, append-nil))
 
-pub overflow_sub_start : goal.overflow_sub_start
-overflow_sub_start c = omega (arith, decimal_nonempty c.loop_rest.rest (omega arith))
+pub overflow-sub-start : goal.overflow-sub-start
+overflow-sub-start c = omega (arith, decimal_nonempty c.loop-rest.rest (omega arith))
 
-pub returns_then_rest_eq0 : goal.returns_then_rest_eq0
-returns_then_rest_eq0 c =
-    let l = c.loop_rest in
+pub returns-then-rest-eq0 : goal.returns-then-rest-eq0
+returns-then-rest-eq0 c =
+    let l = c.loop-rest in
     let some = decimal_nonempty l.rest (omega arith) in
-    let only = decimal_only l.digits l.start c.decimal_digit.result l.rest (omega arith) (omega arith) c.decimal_digit.ensures c.if_rest_eq0.true in
-    let whole = between_to_end (set l.digits (l.start - 1) c.decimal_digit.result) (l.start - 1) 20 (simp length-set (omega arith)) in
+    let only = decimal_only l.digits l.start c.decimal-digit.result l.rest (omega arith) (omega arith) c.decimal-digit.ensures c.if-rest-eq0.true in
+    let whole = between_to_end (set l.digits (l.start - 1) c.decimal-digit.result) (l.start - 1) 20 (simp length-set (omega arith)) in
     record { start = omega arith; digits = whole ∙ only ∙ sym l.invariant.4 }
 
-pub loop_rest_preserved : goal.loop_rest_preserved
-loop_rest_preserved c =
-    let l = c.loop_rest in
-    let more : 10 ≤ l.rest = omega (arith, c.if_rest_eq0.false) in
+pub loop-rest-preserved : goal.loop-rest-preserved
+loop-rest-preserved c =
+    let l = c.loop-rest in
+    let more : 10 ≤ l.rest = omega (arith, c.if-rest-eq0.false) in
     let longer = ap length (decimal_step l.rest more (omega arith)) ∙ length_push (decimal (l.rest / 10)) _ in
-    let last = decimal_last l.digits l.start c.decimal_digit.result l.rest (omega arith) (omega arith) c.decimal_digit.ensures more (omega arith) in
+    let last = decimal_last l.digits l.start c.decimal-digit.result l.rest (omega arith) (omega arith) c.decimal-digit.ensures more (omega arith) in
     (omega arith, simp length-set (omega arith), omega arith, omega arith, l.invariant.4 ∙ sym last)

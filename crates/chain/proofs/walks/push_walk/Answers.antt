@@ -5,23 +5,23 @@ use Rattle.measures.proofs.Carrying.{carried_take_more, carried_take_all}
 use Rattle.chain.proofs.Chains.{labels_take_more, lines_more, walk_stops, walk_ends}
 use Rattle.chain.proofs.walks.push_walk.Goals as goal
 
-pub returns_then_label_labels : goal.returns_then_label_labels
-returns_then_label_labels g c =
+pub returns-then-label-labels : goal.returns-then-label-labels
+returns-then-label-labels g c =
     let judge = c.args.judge.now in
     let m = g.J.Measure.meaning judge in
-    let l = c.loop_i in
+    let l = c.loop-i in
     walk_stops (carried m) (vec_items c.args.out.now) (vec_items l.out) c.args.labels.now l.i l.invariant.0
-    (λ (v : Word). g.J.Judge.some_of judge (carried m v)) (λ (v : Word). g.J.Judge.all_of judge (carried m v)) m.labels c.args.from l.invariant.2
-    (vec_items c.push_fault.new.out) (omega arith) (omega (arith, c.labels.ensures)) c.in_ok_push_fault.ensures
+    (λ (v : Word). g.J.Judge.someOf judge (carried m v)) (λ (v : Word). g.J.Judge.allOf judge (carried m v)) m.labels c.args.from l.invariant.2
+    (vec_items c.push-fault.new.out) (omega arith) (omega (arith, c.labels.ensures)) c.in-ok-push-fault.ensures
 
-pub loop_i_preserved : goal.loop_i_preserved
-loop_i_preserved g c =
+pub loop-i-preserved : goal.loop-i-preserved
+loop-i-preserved g c =
     let m = g.J.Measure.meaning c.args.judge.now in
-    let l = c.loop_i in
+    let l = c.loop-i in
     let w = c.args.labels.now in
-    let next = carried_take_more m l.states c.step_states.result w l.i (omega arith) l.invariant.1 c.step_states.ensures in (
+    let next = carried_take_more m l.states c.step-states.result w l.i (omega arith) l.invariant.1 c.step-states.ensures in (
       lines_more (carried m) (vec_items c.args.out.now) (vec_items l.out) w l.i l.invariant.0
-          (vec_items c.push_line.new.out) c.step_states.result (omega arith) c.in_ok_push_line.ensures next,
+          (vec_items c.push-line.new.out) c.step-states.result (omega arith) c.in-ok-push-line.ensures next,
       next,
       labels_take_more m.labels w l.i (omega arith) l.invariant.2 (omega (arith, c.labels.ensures)),
     )
@@ -30,11 +30,11 @@ pub returns : goal.returns
 returns g c =
     let judge = c.args.judge.now in
     let m = g.J.Measure.meaning judge in
-    let l = c.loop_i in
+    let l = c.loop-i in
     let w = c.args.labels.now in
     let whole = carried_take_all m l.states w l.i (omega arith) l.invariant.1 in
     walk_ends (carried m) (vec_items c.args.out.now) (vec_items l.out) w l.i l.invariant.0
-    (λ (v : Word). g.J.Judge.some_of judge (carried m v)) (λ (v : Word). g.J.Judge.all_of judge (carried m v)) m.labels c.args.from l.invariant.2
-    (vec_items c.push_verdict.new.out) c.some_some.result c.all_all.result (omega arith) c.in_ok_push_verdict.ensures
-    (c.some_some.ensures.answer ∙ ap (g.J.Judge.some_of judge) whole)
-    (c.all_all.ensures.answer ∙ ap (g.J.Judge.all_of judge) whole)
+    (λ (v : Word). g.J.Judge.someOf judge (carried m v)) (λ (v : Word). g.J.Judge.allOf judge (carried m v)) m.labels c.args.from l.invariant.2
+    (vec_items c.push-verdict.new.out) c.some-some.result c.all-all.result (omega arith) c.in-ok-push-verdict.ensures
+    (c.some-some.ensures.answer ∙ ap (g.J.Judge.someOf judge) whole)
+    (c.all-all.ensures.answer ∙ ap (g.J.Judge.allOf judge) whole)

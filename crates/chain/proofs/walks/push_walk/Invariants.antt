@@ -5,8 +5,8 @@ use Rattle.chain.specs.Walks.{lines}
 use Rattle.chain.proofs.walks.push_walk.Given as goal
 
 -- the first i labels are the judge's, `states` is what they come to, and their lines are written
-abbrev pub invariant_loop_i : goal.invariant_loop_i
-invariant_loop_i g l =
+abbrev pub invariant-loop-i : goal.invariant-loop-i
+invariant-loop-i g l =
     (vec_items l.out ≡ vec_items l.initial.out ++ lines (carried (g.J.Measure.meaning l.judge)) [] (take l.i l.labels))
     × (l.states ≡ carried (g.J.Measure.meaning l.judge) (take l.i l.labels))
     × Labels (g.J.Measure.meaning l.judge).labels (take l.i l.labels)

@@ -5,14 +5,14 @@ use Rattle.causality.specs.Merging.{merged}
 use Rattle.measures.proofs.Merges.{values_more}
 use Rattle.measures.proofs.merging.merge_value_cells.Goals as goal
 
-pub loop_j_init : goal.loop_j_init
-loop_j_init g c =
+pub loop-j-init : goal.loop-j-init
+loop-j-init g c =
     let a = c.args in
     paste_none a.values.now (a.to * a.n) (tabled (λ j. (merged (g.M.Measure.meaning a.m.now).start a.clocks.now a.flags.now a.values.now a.n a.from a.to j).value) a.n)
 
-pub loop_j_preserved : goal.loop_j_preserved
-loop_j_preserved g c =
+pub loop-j-preserved : goal.loop-j-preserved
+loop-j-preserved g c =
     let a = c.args in
-    let l = c.loop_j in
+    let l = c.loop-j in
     values_more (g.M.Measure.meaning a.m.now).start a.clocks.now a.flags.now a.values.now a.n a.from a.to l.j
-    c.loop_j_test.true c.requires.to_rows.1.1 l.values l.invariant _ c.merge_value_column.ensures
+    c.loop-j-test.true c.requires.to-rows.1.1 l.values l.invariant _ c.merge-value-column.ensures

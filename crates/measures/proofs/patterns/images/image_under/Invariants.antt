@@ -3,5 +3,5 @@ use Rattle.measures.specs.Automata.{next, image}
 use Rattle.measures.proofs.patterns.images.image_under.Given as goal
 
 -- the states below q have been moved
-abbrev pub invariant_loop_q : goal.invariant_loop_q
-invariant_loop_q l = l.out ≡ image (next l.labels l.table l.l) l.q l.set
+abbrev pub invariant-loop-q : goal.invariant-loop-q
+invariant-loop-q l = l.out ≡ image (next l.labels l.table l.l) l.q l.set
