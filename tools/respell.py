@@ -52,11 +52,16 @@ def imports(text, crates):
     return {it.strip() for it in found}
 
 
+def of_a_function(path):
+    """Whether the file answers the goals of a function: it stands in a folder of proofs/."""
+    return re.match(r"crates/\w+/proofs/.*/\w+\.antt", path)
+
+
 def declared():
     """The names that the specs and the lemma files declare."""
     found = set()
     for path in files((".antt",)):
-        if not path.endswith(("/Answers.antt", "/Invariants.antt")):
+        if not of_a_function(path):
             with open(path, encoding="utf-8") as file:
                 for line in file:
                     m = re.match(r"\s*(?:(?:pub|abbrev|record|data)\s+)*((?:%s\s+)+)[:({]" % NAME.pattern, line)
@@ -67,7 +72,7 @@ def declared():
 
 def turned(path, text, crates, own):
     kept = imports(text, crates)
-    if path.endswith(("/Answers.antt", "/Invariants.antt")):
+    if of_a_function(path):
         kept |= {it for it in NAME.findall(text) if it not in own}
     here = LIBRARY.get(path, {})
     seen = {}

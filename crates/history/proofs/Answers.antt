@@ -23,22 +23,22 @@ use Rattle.history.proofs.Stamps.{clocks_stamp}
 
 module _ {V : Type 0} (M : Payload V) (ev : Events) (once : Once ev) (u i l : ℕ) (r : ℕ → Cell V) (e : ev u i ≡ Some (mark l)) (d : Row M ev u i r) where
   -- a unit is flagged just before a mark exactly when it has an immediate predecessor of it
-  flagged-immediate : (v : ℕ) → (r v).flag ≡ true → (p : ℕ) × Immediate ev v p u i
-  flagged-immediate v y = let (p, t, w) = ((rows_true M ev once d).cells v).top y in (p, top_immediate ev v p u i (l, e) t)
+  flagged_immediate : (v : ℕ) → (r v).flag ≡ true → (p : ℕ) × Immediate ev v p u i
+  flagged_immediate v y = let (p, t, w) = ((rows_true M ev once d).cells v).top y in (p, top_immediate ev v p u i (l, e) t)
 
-  immediate-flagged : (v p : ℕ) → Immediate ev v p u i → (r v).flag ≡ true
-  immediate-flagged v p y = ⊎_elim (λ x. x) (λ x. absurd (((rows_true M ev once d).cells v).low x p (immediate_top ev v p u i y))) (cases_Bool (r v).flag)
+  immediate_flagged : (v p : ℕ) → Immediate ev v p u i → (r v).flag ≡ true
+  immediate_flagged v p y = ⊎_elim (λ x. x) (λ x. absurd (((rows_true M ev once d).cells v).low x p (immediate_top ev v p u i y))) (cases_Bool (r v).flag)
 
   pub predecessors : (z : Size) → Ranged ev z → (v : ℕ) → Member v (those (λ j. (r j).flag) z.units) ↔ ((p : ℕ) × Immediate ev v p u i)
   predecessors z rg v = (
-    (λ m. flagged-immediate v (member_those (λ j. (r j).flag) z.units v m).1),
-    (λ y. those_member (λ j. (r j).flag) z.units v (rg.unit v y.0 y.1.0.0 y.1.0.1) (immediate-flagged v y.0 y.1)),
+    (λ m. flagged_immediate v (member_those (λ j. (r j).flag) z.units v m).1),
+    (λ y. those_member (λ j. (r j).flag) z.units v (rg.unit v y.0 y.1.0.0 y.1.0.1) (immediate_flagged v y.0 y.1)),
   )
 
 module _ {V : Type 0} (M : Payload V) (z : Size) (cs : List Call) (u i l : ℕ) (e : happened M z cs u i ≡ Some (mark l)) where
   -- the answer, and the row that it was made from
-  pub answer-made : (a : Answered M z cs u i) × (r : ℕ → Cell V) × Row M (happened M z cs) u i r × (a.value ≡ M.make r u l)
-  answer-made =
+  pub answer_made : (a : Answered M z cs u i) × (r : ℕ → Cell V) × Row M (happened M z cs) u i r × (a.value ≡ M.make r u l)
+  answer_made =
       let once = (sound_run M z cs).once in
       let (r, t, d, g, q) = (said_run M z cs).says u i (mark l) e in
       let (s, c, x) = after_mark M (happened M z cs) u i l e (suc i) refl g in (
@@ -57,25 +57,25 @@ module _ {V : Type 0} (M : Payload V) (z : Size) (cs : List Call) (u i l : ℕ) 
         ap (λ (y : ℕ → Cell V). (y u).value) x ∙ ap (λ (y : Cell V). y.value) (mark_own M u l s),
       )
 
-pub marks-answered : (V : Type 0) → MarksAnswered V
-marks-answered V M z cs u i l e = (answer-made M z cs u i l e).0
+pub marks_answered : (V : Type 0) → MarksAnswered V
+marks_answered V M z cs u i l e = (answer_made M z cs u i l e).0
 
 module _ {V : Type 0} (M : Payload V) (z : Size) (cs : List Call) (u i : ℕ) where
   -- an event that is no mark leaves the number of marks
-  told-clock : (e : Event) → happened M z cs u i ≡ Some e → tick (Some e) ≡ 0 → (t : ℕ → Cell V) → Row M (happened M z cs) u (suc i) t → (t u).clock ≡ marks (happened M z cs) u i
-  told-clock e p q t g = (rows_true M (happened M z cs) (sound_run M z cs).once g).mine ∙ ap (λ (o : Option Event). marks (happened M z cs) u i + tick o) p ∙ ap (λ (k : ℕ). marks (happened M z cs) u i + k) q ∙ add-zero _
+  told_clock : (e : Event) → happened M z cs u i ≡ Some e → tick (Some e) ≡ 0 → (t : ℕ → Cell V) → Row M (happened M z cs) u (suc i) t → (t u).clock ≡ marks (happened M z cs) u i
+  told_clock e p q t g = (rows_true M (happened M z cs) (sound_run M z cs).once g).mine ∙ ap (λ (o : Option Event). marks (happened M z cs) u i + tick o) p ∙ ap (λ (k : ℕ). marks (happened M z cs) u i + k) q ∙ add-zero _
 
-  reply-clock : (t : ℕ → Cell V) (c : ℕ) → (t u).clock ≡ c → ◌≡◌ {A = Option (Reply V)} (Some (record { answer = own_clock (t u).clock; stamp = λ v. (t v).clock })) (Some (record { answer = own_clock c; stamp = λ v. (t v).clock }))
-  reply-clock t c e = ap (λ (k : ℕ). Some (record { answer = own_clock k; stamp = λ v. (t v).clock })) e
+  reply_clock : (t : ℕ → Cell V) (c : ℕ) → (t u).clock ≡ c → ◌≡◌ {A = Option (Reply V)} (Some (record { answer = own_clock (t u).clock; stamp = λ v. (t v).clock })) (Some (record { answer = own_clock c; stamp = λ v. (t v).clock }))
+  reply_clock t c e = ap (λ (k : ℕ). Some (record { answer = own_clock k; stamp = λ v. (t v).clock })) e
 
   pub moved_told : (m : ℕ) → (happened M z cs u i ≡ Some (send m)) ⊎ (happened M z cs u i ≡ Some (receive m))
       → (stamp : ℕ → ℕ) × (at (run M z cs).told u i ≡ Some (record { answer = own_clock (marks (happened M z cs) u i); stamp = stamp }))
   moved_told m (inl e) =
       let (r, t, d, g, q) = (said_run M z cs).says u i (send m) e in
-      ((λ v. (t v).clock), q ∙ reply-clock t _ (told-clock (send m) e refl t g))
+      ((λ v. (t v).clock), q ∙ reply_clock t _ (told_clock (send m) e refl t g))
   moved_told m (inr e) =
       let (r, t, d, g, q) = (said_run M z cs).says u i (receive m) e in
-      ((λ v. (t v).clock), q ∙ reply-clock t _ (told-clock (receive m) e refl t g))
+      ((λ v. (t v).clock), q ∙ reply_clock t _ (told_clock (receive m) e refl t g))
 
-pub messages-answered : (V : Type 0) → MessagesAnswered V
-messages-answered V M z cs u i m e = moved_told M z cs u i m e
+pub messages_answered : (V : Type 0) → MessagesAnswered V
+messages_answered V M z cs u i m e = moved_told M z cs u i m e

@@ -29,5 +29,5 @@ state_sets states labels start table = record {
   labels = labels;
   start = 2 ^ start;
   step = λ set l. cond (nat_lt l labels) (image (next labels table l) states set) set;
-  join = bitOr;
+  join = bit_or;
 }

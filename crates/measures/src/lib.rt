@@ -54,9 +54,9 @@ pub trait Measure {
 // accepted mark is the join of what it makes of the words of the longest flows that end there, each taken once, whatever the order of the
 // calls (`runs`).
 pub fn carry<M: Measure>(m: &M, word: &[u8]) -> M::Value
-    ensures value { result ≡ carried (meaning m.now) word.now }
-    ensures carries { Carries (meaning m.now) (admits m.now) }
-    ensures runs { LawOfRuns (meaning m.now) }
+    ensures value { result ≡ carried (M.meaning m.now) word.now }
+    ensures carries { Carries (M.meaning m.now) (M.admits m.now) }
+    ensures runs { LawOfRuns (M.meaning m.now) }
 {
     let mut v = m.start();
     for l in word {
@@ -67,7 +67,7 @@ pub fn carry<M: Measure>(m: &M, word: &[u8]) -> M::Value
 
 // The value after one more label.
 fn stepped<M: Measure>(m: &M, v: M::Value, l: u8) -> M::Value
-    ensures { result ≡ (meaning m.now).step v l }
+    ensures { result ≡ (M.meaning m.now).step v l }
 {
     m.step(v, l)
 }

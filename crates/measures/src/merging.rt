@@ -18,7 +18,7 @@ pub fn merge_value<M: Measure>(
     own_value: M::Value,
     other_value: M::Value,
 ) -> M::Value
-    ensures { result ≡ (merged_cell (meaning m.now).start (valued own.clock own.flag own_value) (valued other.clock other.flag other_value)).value }
+    ensures { result ≡ (merged_cell (M.meaning m.now).start (valued own.clock own.flag own_value) (valued other.clock other.flag other_value)).value }
 {
     if own.is_behind(other) {
         return other_value;
@@ -44,7 +44,7 @@ fn merge_value_column<M: Measure>(
     requires column { j < n }
     requires from_rows { (from * n + n ≤ length clocks.now) × ((from * n + n ≤ length flags.now) × (from * n + n ≤ length values.old)) }
     requires to_rows { (to * n + n ≤ length clocks.now) × ((to * n + n ≤ length flags.now) × (to * n + n ≤ length values.old)) }
-    ensures { values.new ≡ slice_set values.old (to * n + j) (merged (meaning m.now).start clocks.now flags.now values.old n from to j).value }
+    ensures { values.new ≡ slice_set values.old (to * n + j) (merged (M.meaning m.now).start clocks.now flags.now values.old n from to j).value }
 {
     let other = Cell {
         clock: clocks[from * n + j],
@@ -73,7 +73,7 @@ fn merge_value_cells<M: Measure>(
 )
     requires from_rows { (from * n + n ≤ length clocks.now) × ((from * n + n ≤ length flags.now) × (from * n + n ≤ length values.old)) }
     requires to_rows { (to * n + n ≤ length clocks.now) × ((to * n + n ≤ length flags.now) × (to * n + n ≤ length values.old)) }
-    ensures { values.new ≡ with_row values.old n to (tabled (λ j. (merged (meaning m.now).start clocks.now flags.now values.old n from to j).value) n) }
+    ensures { values.new ≡ with_row values.old n to (tabled (λ j. (merged (M.meaning m.now).start clocks.now flags.now values.old n from to j).value) n) }
 {
     for j in 0..n {
         merge_value_column(m, clocks, flags, values, n, from, to, j);
@@ -107,7 +107,7 @@ pub fn merge_values<M: Measure>(
     to: usize,
 ) -> bool
     ensures answer { result ≡ has_value_rows clocks.now.width flags.now.width values.old.width (length clocks.now.cells.now) (length flags.now.cells.now) (length values.old.cells.now) from to }
-    ensures values { values.new.cells.now ≡ (if result then with_row values.old.cells.now clocks.now.width to (tabled (λ j. (merged (meaning m.now).start clocks.now.cells.now flags.now.cells.now values.old.cells.now clocks.now.width from to j).value) clocks.now.width) else values.old.cells.now) }
+    ensures values { values.new.cells.now ≡ (if result then with_row values.old.cells.now clocks.now.width to (tabled (λ j. (merged (M.meaning m.now).start clocks.now.cells.now flags.now.cells.now values.old.cells.now clocks.now.width from to j).value) clocks.now.width) else values.old.cells.now) }
     ensures width { values.new.width ≡ values.old.width }
     ensures lender { values.new.cells.ghost_name ≡ values.old.cells.ghost_name }
 {

@@ -76,7 +76,7 @@ impl<M: Measure> Relabelling<M> {
     pub fn read(input: &[u8], at: usize, inner: M) -> Result<Relabelling<M>, Fault>
     where
         M: Drop,
-        ensures { MatchResult result (λ m. (relabelling_fault input.now at (meaning inner).labels ≡ None) × (m.table.count ≡ count_in input.now at) × (m.table.entries ≡ padded 64 (entries_in input.now at)) × (m.inner ≡ inner)) (λ f. relabelling_fault input.now at (meaning inner).labels ≡ Some f) }
+        ensures { MatchResult result (λ m. (relabelling_fault input.now at (M.meaning inner).labels ≡ None) × (m.table.count ≡ count_in input.now at) × (m.table.entries ≡ padded 64 (entries_in input.now at)) × (m.inner ≡ inner)) (λ f. relabelling_fault input.now at (M.meaning inner).labels ≡ Some f) }
     {
         let table = LabelTable::read(input, at, inner.labels())?;
         Ok(Relabelling { table, inner })

@@ -16,7 +16,7 @@ pub loop-j-preserved : goal.loop-j-preserved
 loop-j-preserved c =
     let a = c.args in
     let l = c.loop-j in
-    let fits = c.requires.to-rows in (
-      clocks_more a.clocks.now a.flags.now a.n a.from a.to l.j c.loop-j-test.true fits.0 fits.1 l.clocks l.flags l.invariant.0 l.invariant.1 _ c.merge-column.ensures.clocks,
-      flags_more a.clocks.now a.flags.now a.n a.from a.to l.j c.loop-j-test.true fits.0 fits.1 l.clocks l.flags l.invariant.0 l.invariant.1 _ c.merge-column.ensures.flags,
+    let fits = c.requires.to_rows in (
+      clocks_more a.clocks.now a.flags.now a.n a.from a.to l.j c.loop-j-test.true fits.0 fits.1 l.clocks l.flags l.invariant.0 l.invariant.1 _ c.merge_column.ensures.clocks,
+      flags_more a.clocks.now a.flags.now a.n a.from a.to l.j c.loop-j-test.true fits.0 fits.1 l.clocks l.flags l.invariant.0 l.invariant.1 _ c.merge_column.ensures.flags,
     )

@@ -15,6 +15,6 @@ returns c =
     let clock = part_at cs at a.j 0 (omega arith) in
     let flag = part_at fs at a.j false (omega arith) in
     record {
-      clocks = put_at at a.j cs _ _ (omega arith) c.merge-into.ensures.clocks ∙ ap₂ (λ (k : ℕ) (f : Bool). set cs (at + a.j) (merged_cell tt (cell k f) other).clock) clock flag;
-      flags = put_at at a.j fs _ _ (omega arith) c.merge-into.ensures.flags ∙ ap₂ (λ (k : ℕ) (f : Bool). set fs (at + a.j) (merged_cell tt (cell k f) other).flag) clock flag;
+      clocks = put_at at a.j cs _ _ (omega arith) c.merge_into.ensures.clocks ∙ ap₂ (λ (k : ℕ) (f : Bool). set cs (at + a.j) (merged_cell tt (cell k f) other).clock) clock flag;
+      flags = put_at at a.j fs _ _ (omega arith) c.merge_into.ensures.flags ∙ ap₂ (λ (k : ℕ) (f : Bool). set fs (at + a.j) (merged_cell tt (cell k f) other).flag) clock flag;
     }

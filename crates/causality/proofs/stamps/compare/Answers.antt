@@ -8,6 +8,6 @@ returns c =
     let p = c.args.p.now in
     let q = c.args.q.now in
     record {
-      answer = c.compare-entries.ensures;
-      order = subst (λ r. OrdersMarks p q c.args.i c.args.j r) (sym c.compare-entries.ensures) (orders_marks p q c.args.i c.args.j);
+      answer = c.compare_entries.ensures;
+      order = subst (λ r. OrdersMarks p q c.args.i c.args.j r) (sym c.compare_entries.ensures) (orders_marks p q c.args.i c.args.j);
     }

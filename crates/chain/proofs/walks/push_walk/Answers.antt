@@ -12,7 +12,7 @@ returns-then-label-labels g c =
     let l = c.loop-i in
     walk_stops (carried m) (vec_items c.args.out.now) (vec_items l.out) c.args.labels.now l.i l.invariant.0
     (λ (v : Word). g.J.Judge.someOf judge (carried m v)) (λ (v : Word). g.J.Judge.allOf judge (carried m v)) m.labels c.args.from l.invariant.2
-    (vec_items c.push-fault.new.out) (omega arith) (omega (arith, c.labels.ensures)) c.in-ok-push-fault.ensures
+    (vec_items c.push_fault.new.out) (omega arith) (omega (arith, c.labels.ensures)) c.in_ok-push_fault.ensures
 
 pub loop-i-preserved : goal.loop-i-preserved
 loop-i-preserved g c =
@@ -21,7 +21,7 @@ loop-i-preserved g c =
     let w = c.args.labels.now in
     let next = carried_take_more m l.states c.step-states.result w l.i (omega arith) l.invariant.1 c.step-states.ensures in (
       lines_more (carried m) (vec_items c.args.out.now) (vec_items l.out) w l.i l.invariant.0
-          (vec_items c.push-line.new.out) c.step-states.result (omega arith) c.in-ok-push-line.ensures next,
+          (vec_items c.push_line.new.out) c.step-states.result (omega arith) c.in_ok-push_line.ensures next,
       next,
       labels_take_more m.labels w l.i (omega arith) l.invariant.2 (omega (arith, c.labels.ensures)),
     )
@@ -35,6 +35,6 @@ returns g c =
     let whole = carried_take_all m l.states w l.i (omega arith) l.invariant.1 in
     walk_ends (carried m) (vec_items c.args.out.now) (vec_items l.out) w l.i l.invariant.0
     (λ (v : Word). g.J.Judge.someOf judge (carried m v)) (λ (v : Word). g.J.Judge.allOf judge (carried m v)) m.labels c.args.from l.invariant.2
-    (vec_items c.push-verdict.new.out) c.some-some.result c.all-all.result (omega arith) c.in-ok-push-verdict.ensures
+    (vec_items c.push_verdict.new.out) c.some-some.result c.all-all.result (omega arith) c.in_ok-push_verdict.ensures
     (c.some-some.ensures.answer ∙ ap (g.J.Judge.someOf judge) whole)
     (c.all-all.ensures.answer ∙ ap (g.J.Judge.allOf judge) whole)

@@ -7,6 +7,6 @@ returns g c =
     record {
       some = c.answers.ensures.some;
       all = c.answers.ensures.all;
-      flows = marks_judged (g.J.Measure.meaning j) (g.J.Measure.admits j) (g.met.J.Measure.lawful j) (g.J.Judge.someOf j) (g.J.Judge.allOf j) (g.J.Judge.good j)
-          c.answers.ensures.some-judges c.answers.ensures.all-judges;
+      flows = marks_judged (g.J.Measure.meaning j) (g.J.Measure.admits j) (g.met.J.Measure.lawful j) (g.J.Judge.some_of j) (g.J.Judge.all_of j) (g.J.Judge.good j)
+          c.answers.ensures.some_judges c.answers.ensures.all_judges;
     }

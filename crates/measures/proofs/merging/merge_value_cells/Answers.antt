@@ -15,4 +15,4 @@ loop-j-preserved g c =
     let a = c.args in
     let l = c.loop-j in
     values_more (g.M.Measure.meaning a.m.now).start a.clocks.now a.flags.now a.values.now a.n a.from a.to l.j
-    c.loop-j-test.true c.requires.to-rows.1.1 l.values l.invariant _ c.merge-value-column.ensures
+    c.loop-j-test.true c.requires.to_rows.1.1 l.values l.invariant _ c.merge_value_column.ensures

@@ -8,6 +8,6 @@ returns c =
     let m = c.args.self.now in
     let h = m.head in
     record {
-      answer = c.all-final.ensures;
+      answer = c.all_final.ensures;
       judges = shows_accepted h.states h.labels h.start m.table h.labels_counted h.start_state m.complete h.finals ◌&&◌ (λ (set : ℕ). within set h.finals) (within_or h.finals) (within_one h.finals);
     }

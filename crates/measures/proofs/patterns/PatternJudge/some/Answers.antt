@@ -8,6 +8,6 @@ returns c =
     let m = c.args.self.now in
     let h = m.head in
     record {
-      answer = c.some-final.ensures;
+      answer = c.some_final.ensures;
       judges = shows_accepted h.states h.labels h.start m.table h.labels_counted h.start_state m.complete h.finals ◌||◌ (λ (set : ℕ). meets set h.finals) (meets_or h.finals) (meets_one h.finals);
     }

@@ -7,6 +7,6 @@ pub returns : goal.returns
 returns c =
     let m = c.args.self.now in
     record {
-      answer = c.is-within.ensures;
+      answer = c.is_within.ensures;
       judges = shows_within m.labels m.limit m.limited ◌||◌ (λ (v : Ends). v.shortest) (λ k. refl) (shortest_joins m.labels m.limit);
     }
