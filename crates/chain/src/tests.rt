@@ -1,20 +1,21 @@
 // Reports as they are written, byte for byte.
 use super::reports::report;
-use std::test::*;
+use std::process::Abort;
+use std::test::Fail;
 
 // Labels: 0 beacon, 1 waiting, 2 sound. A good chain is made of rounds: waiting, then beacon, then sound.
 const PATTERN: [u8; 27] = [
     0x20, 5, 3, 0, 0x08, 0, 0, 0, 0, 0, 0, 0, 4, 1, 4, 2, 1, 4, 2, 1, 3, 4, 1, 4, 4, 4, 4,
 ];
 
-fn reported(rt: &HostRuntime, input: &[u8], text: &str) -> Result<(), Fail> {
+fn reported(rt: &(impl Abort + AllocGlobal), input: &[u8], text: &str) -> Result<(), Fail> {
     let out = report(rt.alloc(), input)?;
-    assert!(out.as_slice() == text.as_bytes());
+    assert!(rt; out.as_slice() == text.as_bytes());
     Ok(())
 }
 
 // The report on the pattern and the labels of a chain.
-fn walked(rt: &HostRuntime, labels: &[u8], text: &str) -> Result<(), Fail> {
+fn walked(rt: &(impl Abort + AllocGlobal), labels: &[u8], text: &str) -> Result<(), Fail> {
     let mut input = PATTERN.to_vec(rt.alloc())?;
     input.extend_from_slice(labels)?;
     reported(rt, &input, text)

@@ -3,12 +3,12 @@ use Rattle.std.proofs.lemmas.List.{take_rest}
 use Rattle.chain.proofs.Judgement.{judged_bad, judged_good}
 use Rattle.chain.proofs.reports.push_judged.Goals as goal
 
-pub returns-in_ok-push_fault : goal.returns-in_ok-push_fault
-returns-in_ok-push_fault c =
-    judged_bad (vec_items c.args.out.now) _ c.args.input.now _ c.in-Err.ensures.answer c.in_ok-push_fault.ensures
+pub returns-in_ok-push_fault-in-Err : goal.returns-in_ok-push_fault-in-Err
+returns-in_ok-push_fault-in-Err c =
+    judged_bad (vec_items c.args.out.now) _ c.args.input.now _ c.in-Err.ensures.answer c.in_ok-push_fault-in-Err.ensures
 
-pub returns-in_ok-push_walk : goal.returns-in_ok-push_walk
-returns-in_ok-push_walk c =
+pub returns-in_ok-push_walk-in-Ok : goal.returns-in_ok-push_walk-in-Ok
+returns-in_ok-push_walk-in-Ok c =
     let read = c.in-Ok.ensures in
     let parts = read.answer.1 in
     let from = c.size-from.result in
@@ -17,5 +17,5 @@ returns-in_ok-push_walk c =
     read.answer.0
     (c.size-from.ensures ∙ ap₂ (λ (s a : ℕ). 12 + s * a) parts.states_are parts.labels_are)
     (take_rest b from)
-    c.in_ok-extend_from_slice.ensures.items
-    c.in_ok-push_walk.ensures
+    c.in_ok-extend_from_slice-in-Ok.ensures.items
+    c.in_ok-push_walk-in-Ok.ensures

@@ -11,7 +11,7 @@ returns-then-label-labels g c =
     let m = g.J.Measure.meaning judge in
     let l = c.loop-i in
     walk_stops (carried m) (vec_items c.args.out.now) (vec_items l.out) c.args.labels.now l.i l.invariant.0
-    (λ (v : Word). g.J.Judge.someOf judge (carried m v)) (λ (v : Word). g.J.Judge.allOf judge (carried m v)) m.labels c.args.from l.invariant.2
+    (λ (v : Word). g.J.Judge.some_of judge (carried m v)) (λ (v : Word). g.J.Judge.all_of judge (carried m v)) m.labels c.args.from l.invariant.2
     (vec_items c.push_fault.new.out) (omega arith) (omega (arith, c.labels.ensures)) c.in_ok-push_fault.ensures
 
 pub loop-i-preserved : goal.loop-i-preserved
@@ -34,7 +34,7 @@ returns g c =
     let w = c.args.labels.now in
     let whole = carried_take_all m l.states w l.i (omega arith) l.invariant.1 in
     walk_ends (carried m) (vec_items c.args.out.now) (vec_items l.out) w l.i l.invariant.0
-    (λ (v : Word). g.J.Judge.someOf judge (carried m v)) (λ (v : Word). g.J.Judge.allOf judge (carried m v)) m.labels c.args.from l.invariant.2
+    (λ (v : Word). g.J.Judge.some_of judge (carried m v)) (λ (v : Word). g.J.Judge.all_of judge (carried m v)) m.labels c.args.from l.invariant.2
     (vec_items c.push_verdict.new.out) c.some-some.result c.all-all.result (omega arith) c.in_ok-push_verdict.ensures
-    (c.some-some.ensures.answer ∙ ap (g.J.Judge.someOf judge) whole)
-    (c.all-all.ensures.answer ∙ ap (g.J.Judge.allOf judge) whole)
+    (c.some-some.ensures.answer ∙ ap (g.J.Judge.some_of judge) whole)
+    (c.all-all.ensures.answer ∙ ap (g.J.Judge.all_of judge) whole)
