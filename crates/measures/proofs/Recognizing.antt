@@ -4,7 +4,7 @@ use lib.Bits.{bit_or}
 use Rattle.std.proofs.lemmas.List.{get_or_append_left, get_or-append_right, get_or-replicate, get_or_past, length-replicate}
 use Rattle.std.proofs.lemmas.Bool.{cases_lt}
 use Rattle.std.proofs.lemmas.Bool.Decides.{same_from_decides, Decides-eqb}
-use Rattle.std.specs.List.{AllByRecursion as All}
+use Rattle.std.specs.List.{AllByRecursion}
 use Rattle.bitset.specs.Sets.{bit, Member, has, meets, within}
 use Rattle.bitset.proofs.Members.{member_or, or_member_left, or_member_right}
 use Rattle.measures.specs.Words.{Letter, Word, Labels}
@@ -50,7 +50,7 @@ module _ (b : List ℕ) (states labels start finals : ℕ) (table : List ℕ) (p
   member w ls q = subst (λ (set : ℕ). Member q set ↔ (state_after b w ≡ q)) (sym (one w ls)) (only_member (state_after b w) q)
 
   -- the members of a join that begins with a set, and then has the sets of words
-  joined_member : (set : ℕ) (ws : List Word) → All (Labels (labels_in b)) ws → (q : ℕ)
+  joined_member : (set : ℕ) (ws : List Word) → AllByRecursion (Labels (labels_in b)) ws → (q : ℕ)
       → Member q (joined (state_sets states labels start table) set (map (carried (state_sets states labels start table)) ws)) ↔ (Member q set ⊎ Any (λ v. state_after b v ≡ q) ws)
   joined_member set [] ls q = (inl, ⊎_elim (λ m. m) (λ n. absurd n))
   joined_member set (w ∷ ws) ls q =

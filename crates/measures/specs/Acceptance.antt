@@ -1,6 +1,6 @@
 -- The words that a pattern's bytes accept, and what its state sets say of them.
 use Rattle.std.specs.Prelude.{◌≡◌, ℕ, ◌^◌, Bool, ◌⊎◌, ◌↔◌, List, [], ◌∷◌, map}
-use Rattle.std.specs.List.{AllByRecursion as All}
+use Rattle.std.specs.List.{AllByRecursion}
 use Rattle.bitset.specs.Sets.{Member, has}
 use Rattle.measures.specs.Words.{Word, Labels}
 use Rattle.measures.specs.Measures.{Meaning, carried, joined}
@@ -26,7 +26,7 @@ pub record Recognizes (b : List ℕ) (m : Meaning ℕ) (some all : ℕ → Bool)
   -- the set carried along a word holds just the state to which the word leads
   pub one : (w : Word) → Labels (labels_in b) w → carried m w ≡ 2 ^ state_after b w
   -- the union over a non-empty list of words holds exactly the states to which they lead
-  pub union : (w : Word) (ws : List Word) → All (Labels (labels_in b)) (w ∷ ws) → (q : ℕ)
+  pub union : (w : Word) (ws : List Word) → AllByRecursion (Labels (labels_in b)) (w ∷ ws) → (q : ℕ)
       → Member q (joined m (carried m w) (map (carried m) ws)) ↔ Any (λ v. state_after b v ≡ q) (w ∷ ws)
   -- of one word, both answers say whether it is accepted
   pub some_is : (w : Word) → Labels (labels_in b) w → some (carried m w) ≡ accepts b w

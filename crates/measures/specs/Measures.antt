@@ -1,6 +1,6 @@
 -- What a measure is, its laws, and what it makes of words and of lists of values.
 use Rattle.std.specs.Prelude.{◌≡◌, ℕ, ◌<◌, ◌≤◌, Bool, List, [], ◌∷◌, map, nat_lt}
-use Rattle.std.specs.List.{AllByRecursion as All}
+use Rattle.std.specs.List.{AllByRecursion}
 use Rattle.measures.specs.Words.{Letter, Word, letter_of, Labels}
 
 -- A measure offers a number of labels, a start value, a step from a value by a letter, and a join of two values.
@@ -51,5 +51,5 @@ joined m v (x ∷ xs) = joined m (m.join v x) xs
 -- Carrying the join of any non-empty list of admitted values along any word of its letters is joining what each value is carried to.
 abbrev pub Carries : {V : Type 0} → Meaning V → (V → Type 0) → Type 0
 Carries {V} m admits =
-    (v : V) (vs : List V) (w : Word) → admits v → All admits vs → Spelled m w
+    (v : V) (vs : List V) (w : Word) → admits v → AllByRecursion admits vs → Spelled m w
     → carried_from m (joined m v vs) w ≡ joined m (carried_from m v w) (map (λ x. carried_from m x w) vs)

@@ -4,7 +4,7 @@ use native.Mathlib.Nat.{div-div-eq-div-mul, one-le-pow, pow-succ'}
 use lib.Arith.{mod-mul}
 use Rattle.std.proofs.lemmas.Bool.Decides.{nat_tests}
 use Rattle.std.specs.Str.Parse.{digits_value, digits_value_after}
-use Rattle.std.specs.Char.{digit_value as digitValue}
+use Rattle.std.specs.Char.{digit_value as char_value}
 use Rattle.text.specs.Hex.{digit_in_hex, hex, hex_word}
 
 -- A number without its last k digits, and then without one more.
@@ -12,7 +12,7 @@ pub hex_rest : (k v : ℕ) → v / 16 ^ k / 16 ≡ v / 16 ^ suc k
 hex_rest k v = div-div-eq-div-mul v (16 ^ k) 16 ∙ ap (λ p. v / p) (sym (pow-suc 16 k))
 
 -- A digit's byte has the digit as its value.
-digit_value : (d : ℕ) → d < 16 → digitValue (digit_in_hex d) ≡ d
+digit_value : (d : ℕ) → d < 16 → char_value (digit_in_hex d) ≡ d
 digit_value d h = grind (arith, nat_tests)
 
 -- There are as many digits as were asked for.
