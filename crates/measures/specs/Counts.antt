@@ -1,7 +1,12 @@
 -- The flow count.
-use Rattle.std.specs.Prelude.{ℕ, ◌+◌, min}
-use Rattle.measures.specs.Measures.{Meaning}
+use Rattle.std.specs.Prelude.{ℕ, ◌+◌, ◌^◌, ◌<◌, ◌≤◌, min}
+use Rattle.std.proofs.Common.{rules}
+use Rattle.measures.specs.Measures.{Meaning, Lawful}
 
 -- The flow count over n labels: 1 for each flow, added up to at most 4,294,967,295.
 abbrev pub flow_count : ℕ → Meaning ℕ
 flow_count n = record { labels = n; start = 1; step = λ v _. v; join = λ a b. min (a + b) 4294967295 }
+
+-- it keeps the laws on the numbers up to its cap
+pub flow_count_lawful : (n : ℕ) → (0 < n) × (n ≤ 64) → Lawful (flow_count n) (λ v. v < 2 ^ 32)
+flow_count_lawful n counted = search rules

@@ -1,7 +1,8 @@
 -- The span.
-use Rattle.std.specs.Prelude.{ℕ, ◌+◌, min, max, cond, nat_lt}
+use Rattle.std.specs.Prelude.{ℕ, ◌+◌, ◌<◌, ◌≤◌, min, max, cond, nat_lt}
+use Rattle.std.proofs.Common.{rules}
 use Rattle.measures.specs.declared.spans.Ends.{Ends}
-use Rattle.measures.specs.Measures.{Meaning}
+use Rattle.measures.specs.Measures.{Meaning, Lawful}
 
 abbrev pub ends : ℕ → ℕ → Ends
 ends a b = record { shortest = a; longest = b }
@@ -18,3 +19,7 @@ span n = record {
   step = λ v l. cond (nat_lt l n) (ends (longer v.shortest) (longer v.longest)) v;
   join = λ a b. ends (min a.shortest b.shortest) (max a.longest b.longest);
 }
+
+-- it keeps the laws on the pairs of a shortest and a longest number, up to its cap
+pub span_lawful : (n : ℕ) → (0 < n) × (n ≤ 64) → Lawful (span n) (λ v. (v.shortest ≤ v.longest) × (v.longest ≤ 65535))
+span_lawful n counted = search rules

@@ -1,8 +1,7 @@
 // The flow count: how many flows end at a mark.
 ghost use Rattle.std.specs.Prelude.{◌≡◌, ◌^◌, ◌<◌, ◌≤◌, Some, None, MatchResult};
-ghost use Rattle.measures.specs.Counts.{flow_count};
+ghost use Rattle.measures.specs.Counts.{flow_count, flow_count_lawful};
 ghost use Rattle.measures.specs.Refusals.{count_refusal};
-ghost use Rattle.std.proofs.Common.{rules, arith};
 
 use super::Measure;
 use super::refusals::{Refusal, is_counted};
@@ -33,7 +32,7 @@ impl Measure for FlowCount {
 
     ghost admits = { λ _ v. v < 2 ^ 32 };
 
-    ghost lawful = { first_of (Prim.search rules, Prim.grind (arith, Self.row.coded.inj)) };
+    ghost lawful = { λ m. flow_count_lawful m.labels m.counted };
 
     fn labels(&self) -> u8 {
         self.labels

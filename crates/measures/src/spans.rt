@@ -1,8 +1,7 @@
 // The span: the numbers of marks of the shortest and of the longest flow, judged by a limit.
 ghost use Rattle.std.specs.Prelude.{◌≡◌, ◌<◌, ◌≤◌, length, Some, None, MatchResult, nat_le};
 ghost use Rattle.measures.specs.Refusals.{span_refusal};
-ghost use Rattle.measures.specs.Spans.{span};
-ghost use Rattle.std.proofs.Common.{rules, arith};
+ghost use Rattle.measures.specs.Spans.{span, span_lawful};
 
 use super::Measure;
 use super::judges::Judge;
@@ -46,7 +45,7 @@ impl Measure for Span {
 
     ghost admits = { λ _ v. (v.shortest ≤ v.longest) × (v.longest ≤ 65535) };
 
-    ghost lawful = { first_of (Prim.search rules, Prim.grind (arith, Self.row.coded.inj)) };
+    ghost lawful = { λ m. span_lawful m.labels m.counted };
 
     fn labels(&self) -> u8 {
         self.labels
