@@ -1,7 +1,7 @@
 // Sets of the numbers 0 to 63, each one word: number q is in the set exactly when bit q of the word is 1.
 #![tactic(auto)]
 
-ghost use Rattle.std.specs.Prelude.{◌≡◌, ℕ, ◌^◌, ◌<◌, ◌&&◌, ◌||◌, ltb, if◌then◌else◌, Decides, bit_or, nat_lt};
+ghost use Rattle.std.specs.Prelude.{◌≡◌, ℕ, ◌^◌, ◌<◌, ◌&&◌, ◌||◌, if◌then◌else◌, Decides, bit_or, nat_lt};
 ghost use Rattle.bitset.specs.Sets.{Member, has, meets, within};
 
 mod word;
@@ -15,7 +15,7 @@ pub fn contains(set: u64, q: u8) -> bool
 
 // The set with q added; a number from 64 on is not.
 pub fn insert(set: u64, q: u8) -> u64
-    ensures { result ≡ (if ltb q 64 then bit_or set (2 ^ q) else set) }
+    ensures { result ≡ (if nat_lt q 64 then bit_or set (2 ^ q) else set) }
 {
     if q < 64 {
         word::or(set, word::only(q))

@@ -10,7 +10,7 @@ abbrev pub known : ℕ → Word → Word
 known n [] = []
 known n (l ∷ w) = cond (nat_lt l n) (l ∷ known n w) []
 
--- A line for each label of w, in a chain that began with `done`: `set-of` gives the set of states after a word.
+-- A line for each label of w, in a chain that began with `done`: `set_of` gives the set of states after a word.
 abbrev pub lines : (Word → ℕ) → Word → Word → List ℕ
 lines set_of done [] = []
 lines set_of done (l ∷ w) = line_after [] (length done + 1) l (set_of (done ++ l ∷ [])) ++ lines set_of (done ++ l ∷ []) w

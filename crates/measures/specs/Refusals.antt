@@ -1,5 +1,6 @@
--- The refusals, with their numbers and places, and how questions are asked.
-use Rattle.std.specs.Prelude.{ℕ, Bool, cond, ◌&&◌, Some, None, Option, nat_le}
+-- The refusals, with their numbers and places.
+use Rattle.std.specs.Prelude.{ℕ, Bool, ◌&&◌, Some, None, Option, nat_le}
+pub use Rattle.history.specs.Refusals.{ask}
 use Rattle.measures.specs.declared.refusals.Fault.{Fault}
 use Rattle.measures.specs.declared.refusals.Refusal.{Refusal}
 use Rattle.measures.specs.declared.refusals.Refusal.TheVariants.{PatternTooShort, NotAPattern, StateCount, LabelCount, StartState, FinalStates, TableTooShort, EntryTooLarge, SpanLimit, NotARelabelling}
@@ -20,10 +21,6 @@ number NotARelabelling = 22
 -- a refusal met at a byte of the input
 abbrev pub fault : Refusal → ℕ → Fault
 fault r p = record { refusal = r; place = p }
-
--- A question, what a no gives, and the questions after it: the first no decides.
-abbrev pub ask : {X : Type 0} → Bool → X → Option X → Option X
-ask good x rest = cond good rest (Some x)
 
 -- from 1 to 64
 abbrev pub counted : ℕ → Bool
