@@ -31,7 +31,7 @@ impl Stop {
     {
         match self {
             Stop::TooLong => 29,
-            Stop::BadPattern(fault) => fault.refusal.number(),
+            Stop::BadPattern(fault) => u8::from(fault.refusal),
             Stop::UnknownLabel(_) => 6,
         }
     }

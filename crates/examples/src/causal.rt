@@ -5,36 +5,24 @@ use history::{Handling, Post};
 use measures::{FlowCount, merge_value, merge_values};
 use std::test::Fail;
 
-// The number of the state that a message moves to, or 10 and the refusal's.
-fn handled(post: Post, handling: Handling) -> u8 {
-    match post.handled(handling) {
-        Ok(next) => next.code(),
-        Err(refusal) => match refusal.number().checked_add(10) {
-            Some(n) => n,
-            None => 255,
-        },
-    }
+// The number of the state that a message moves to, or the refusal's.
+fn handled(post: Post, handling: Handling) -> Result<u8, u8> {
+    post.handled(handling).map(u8::from).map_err(u8::from)
 }
 
 #[test]
 fn a_message_is_sent_once_and_received_once(rt: HostRuntime) {
-    assert_eq!(rt; handled(Post::Unsent, Handling::Sending), 1);
-    assert_eq!(rt; handled(Post::OnItsWay, Handling::Receiving), 2);
-    assert_eq!(rt; handled(Post::OnItsWay, Handling::Sending), 17);
-    assert_eq!(rt; handled(Post::Delivered, Handling::Sending), 17);
-    assert_eq!(rt; handled(Post::Unsent, Handling::Receiving), 18);
-    assert_eq!(rt; handled(Post::Delivered, Handling::Receiving), 19);
+    assert_eq!(rt; handled(Post::Unsent, Handling::Sending), Ok(1));
+    assert_eq!(rt; handled(Post::OnItsWay, Handling::Receiving), Ok(2));
+    assert_eq!(rt; handled(Post::OnItsWay, Handling::Sending), Err(7));
+    assert_eq!(rt; handled(Post::Delivered, Handling::Sending), Err(7));
+    assert_eq!(rt; handled(Post::Unsent, Handling::Receiving), Err(8));
+    assert_eq!(rt; handled(Post::Delivered, Handling::Receiving), Err(9));
 }
 
-// The number of the answer, or 10 and the refusal's.
-fn compared(p: &[u16], q: &[u16], i: usize, j: usize) -> u8 {
-    match compare(p, q, i, j) {
-        Ok(order) => order.rank(),
-        Err(refusal) => match refusal.number().checked_add(10) {
-            Some(n) => n,
-            None => 255,
-        },
-    }
+// The number of the answer, or the refusal's.
+fn compared(p: &[u16], q: &[u16], i: usize, j: usize) -> Result<u8, u8> {
+    compare(p, q, i, j).map(u8::from).map_err(u8::from)
 }
 
 // Unit 0 marks a and b, unit 2 marks d, unit 1 hears of a and d and marks e; unit 0 hears of e and of a further mark of unit 1, and marks c.
@@ -44,24 +32,24 @@ fn three_chains_into_one_mark(rt: HostRuntime) {
     let b = [2, 0, 0];
     let c = [3, 2, 1];
     let e = [1, 1, 1];
-    assert_eq!(rt; compared(&a, &a, 0, 0), 0);
-    assert_eq!(rt; compared(&a, &c, 0, 0), 1);
-    assert_eq!(rt; compared(&c, &a, 0, 0), 2);
-    assert_eq!(rt; compared(&b, &e, 0, 1), 3);
-    assert_eq!(rt; compared(&e, &c, 1, 0), 1);
-    assert_eq!(rt; compared(&c, &e, 0, 1), 2);
+    assert_eq!(rt; compared(&a, &a, 0, 0), Ok(0));
+    assert_eq!(rt; compared(&a, &c, 0, 0), Ok(1));
+    assert_eq!(rt; compared(&c, &a, 0, 0), Ok(2));
+    assert_eq!(rt; compared(&b, &e, 0, 1), Ok(3));
+    assert_eq!(rt; compared(&e, &c, 1, 0), Ok(1));
+    assert_eq!(rt; compared(&c, &e, 0, 1), Ok(2));
 }
 
 #[test]
 fn comparisons_that_are_refused(rt: HostRuntime) {
     let most = [1; 16];
     let long = [1; 17];
-    assert_eq!(rt; compared(&[], &[], 0, 0), 22);
-    assert_eq!(rt; compared(&[1], &[1, 0], 0, 0), 22);
-    assert_eq!(rt; compared(&long, &long, 17, 0), 22);
-    assert_eq!(rt; compared(&[1, 0], &[1, 0], 2, 0), 14);
-    assert_eq!(rt; compared(&[1, 0], &[1, 0], 0, 2), 14);
-    assert_eq!(rt; compared(&most, &most, 15, 0), 1);
+    assert_eq!(rt; compared(&[], &[], 0, 0), Err(12));
+    assert_eq!(rt; compared(&[1], &[1, 0], 0, 0), Err(12));
+    assert_eq!(rt; compared(&long, &long, 17, 0), Err(12));
+    assert_eq!(rt; compared(&[1, 0], &[1, 0], 2, 0), Err(4));
+    assert_eq!(rt; compared(&[1, 0], &[1, 0], 0, 2), Err(4));
+    assert_eq!(rt; compared(&most, &most, 15, 0), Ok(1));
 }
 
 #[test]
@@ -115,9 +103,7 @@ fn a_message_overtaken_by_an_indirect_one(rt: HostRuntime) {
 // A unit that has received two messages from one mark counts that mark's flows once.
 #[test]
 fn two_messages_from_one_mark(rt: HostRuntime) -> Result<(), Fail> {
-    let Ok(count) = FlowCount::new(1) else {
-        return Err(Fail::new("refused"));
-    };
+    let count = FlowCount::new(1)?;
     let flagged = Cell {
         clock: 1,
         flag: true,

@@ -1,6 +1,5 @@
 // What the readers of patterns and relabellings refuse, with the place, and what they take.
-use measures::{Pattern, Relabelling};
-use std::process::Abort;
+use measures::{Fault, Pattern, Relabelling};
 
 // Labels: 0 beacon, 1 waiting, 2 sound. A chain is good if it ends with a sound that follows a beacon heard while waiting.
 pub const PATTERN: [u8; 27] = [
@@ -13,7 +12,7 @@ const RELABELLED: [u8; 32] = [
     1, 2, 0,
 ];
 
-// What stands at one byte changed: its place, the new byte, and the refusal's number and place.
+// One byte changed: its place and the new byte, and the refusal's number and place.
 const BAD_PATTERNS: [(usize, u8, u8, usize); 16] = [
     (0, 0x21, 14, 0),
     (0, 0x00, 14, 0),
@@ -44,73 +43,67 @@ const BAD_RELABELLINGS: [(usize, u8, u8, usize); 8] = [
     (31, 3, 20, 31),
 ];
 
-// The number and place of a pattern's refusal, or 0 and its size where it is taken.
-fn pattern_answer(input: &[u8]) -> (u8, usize) {
-    match Pattern::read(input) {
-        Ok(pattern) => (0, pattern.size()),
-        Err(fault) => (fault.refusal.number(), fault.place),
-    }
+// The number and place of a fault.
+fn told(fault: Fault) -> (u8, usize) {
+    (u8::from(fault.refusal), fault.place)
+}
+
+// The size of the pattern, or the number and place of its refusal.
+fn pattern_answer(input: &[u8]) -> Result<usize, (u8, usize)> {
+    Pattern::read(input)
+        .map(|pattern| pattern.size())
+        .map_err(told)
 }
 
 // The same of the relabelling after the pattern.
-fn relabelling_answer(input: &[u8]) -> (u8, usize) {
-    match Pattern::read(input) {
-        Ok(pattern) => match Relabelling::read(input, pattern.size(), pattern) {
-            Ok(relabelling) => (0, relabelling.size()),
-            Err(fault) => (fault.refusal.number(), fault.place),
-        },
-        Err(_) => (255, 0),
-    }
-}
-
-fn expect(rt: &impl Abort, answer: (u8, usize), number: u8, place: usize) {
-    assert_eq!(rt; answer.0, number);
-    assert_eq!(rt; answer.1, place);
+fn relabelling_answer(input: &[u8]) -> Result<usize, (u8, usize)> {
+    let pattern = Pattern::read(input).map_err(told)?;
+    Relabelling::read(input, pattern.size(), pattern)
+        .map(|relabelling| relabelling.size())
+        .map_err(told)
 }
 
 #[test]
 fn patterns_with_one_bad_byte(rt: HostRuntime) {
     for (at, byte, number, place) in BAD_PATTERNS {
         let mut bytes = PATTERN;
-        if at < 27 {
-            bytes[at] = byte;
+        if let Some(old) = bytes.get_mut(at) {
+            *old = byte;
         }
-        expect(&rt, pattern_answer(&bytes), number, place);
+        assert_eq!(rt; pattern_answer(&bytes), Err((number, place)));
     }
 }
 
 #[test]
 fn patterns_cut_short(rt: HostRuntime) {
-    expect(&rt, pattern_answer(&[]), 13, 0);
-    expect(
-        &rt,
+    assert_eq!(rt; pattern_answer(&[]), Err((13, 0)));
+    assert_eq!(rt;
         pattern_answer(&[0x31, 0, 0, 0, 0, 0, 0, 0, 0, 0, 0]),
-        13,
-        11,
+        Err((13, 11))
     );
-    expect(&rt, pattern_answer(&PATTERN[0..11]), 13, 11);
-    expect(&rt, pattern_answer(&PATTERN[0..12]), 19, 12);
-    expect(&rt, pattern_answer(&PATTERN[0..26]), 19, 26);
-    expect(&rt, pattern_answer(&PATTERN), 0, 27);
-    expect(&rt, pattern_answer(&RELABELLED), 0, 27);
+    assert_eq!(rt; pattern_answer(&PATTERN[0..11]), Err((13, 11)));
+    assert_eq!(rt; pattern_answer(&PATTERN[0..12]), Err((19, 12)));
+    assert_eq!(rt; pattern_answer(&PATTERN[0..26]), Err((19, 26)));
+    assert_eq!(rt; pattern_answer(&PATTERN), Ok(27));
+    assert_eq!(rt; pattern_answer(&RELABELLED), Ok(27));
 }
 
 #[test]
 fn relabellings_with_one_bad_byte(rt: HostRuntime) {
     for (at, byte, number, place) in BAD_RELABELLINGS {
         let mut bytes = RELABELLED;
-        if at < 32 {
-            bytes[at] = byte;
+        if let Some(old) = bytes.get_mut(at) {
+            *old = byte;
         }
-        expect(&rt, relabelling_answer(&bytes), number, place);
+        assert_eq!(rt; relabelling_answer(&bytes), Err((number, place)));
     }
 }
 
 #[test]
 fn relabellings_cut_short(rt: HostRuntime) {
-    expect(&rt, relabelling_answer(&RELABELLED[0..27]), 22, 27);
-    expect(&rt, relabelling_answer(&RELABELLED[0..28]), 19, 28);
-    expect(&rt, relabelling_answer(&RELABELLED[0..29]), 19, 29);
-    expect(&rt, relabelling_answer(&RELABELLED[0..31]), 19, 31);
-    expect(&rt, relabelling_answer(&RELABELLED), 0, 5);
+    assert_eq!(rt; relabelling_answer(&RELABELLED[0..27]), Err((22, 27)));
+    assert_eq!(rt; relabelling_answer(&RELABELLED[0..28]), Err((19, 28)));
+    assert_eq!(rt; relabelling_answer(&RELABELLED[0..29]), Err((19, 29)));
+    assert_eq!(rt; relabelling_answer(&RELABELLED[0..31]), Err((19, 31)));
+    assert_eq!(rt; relabelling_answer(&RELABELLED), Ok(5));
 }

@@ -4,15 +4,24 @@ ghost use Rattle.history.specs.Messages.{code, moved};
 
 use super::refusals::Refusal;
 
-// The state of a message, in the order of its numbers.
+// The state of a message, with the number by which it is known.
 #[derive(Clone, Copy, PartialEq, Eq, Debug)]
 pub enum Post {
     // never sent
-    Unsent,
+    Unsent = 0,
     // sent, and not yet received
-    OnItsWay,
+    OnItsWay = 1,
     // received
-    Delivered,
+    Delivered = 2,
+}
+
+// The number of a state.
+impl From<Post> for u8 {
+    ghost from_gives = { λ post n. n ≡ code post };
+
+    fn from(post: Post) -> u8 {
+        post as u8
+    }
 }
 
 // What a call does with a message.
@@ -23,17 +32,6 @@ pub enum Handling {
 }
 
 impl Post {
-    // The number by which the state is known.
-    pub fn code(self) -> u8
-        ensures { result ≡ code self }
-    {
-        match self {
-            Post::Unsent => 0,
-            Post::OnItsWay => 1,
-            Post::Delivered => 2,
-        }
-    }
-
     // What a send or a receipt makes of the message, or why it is refused.
     pub fn handled(self, handling: Handling) -> Result<Post, Refusal>
         ensures { result ≡ moved self handling }

@@ -2,29 +2,25 @@
 ghost use Rattle.std.specs.Prelude.{◌≡◌};
 ghost use Rattle.history.specs.Precedence.{rank};
 
-// The causal order of two marks, in the order of its numbers.
+// The causal order of two marks, each answer with the number by which it is known.
+// No `Option<Ordering>`: that neither mark is before the other is an answer like the other three, with a number of its own.
 #[derive(Clone, Copy, PartialEq, Eq, Debug)]
 pub enum Precedence {
     // both are one mark
-    Same,
+    Same = 0,
     // the first is before the second
-    Precedes,
+    Precedes = 1,
     // the second is before the first
-    Follows,
+    Follows = 2,
     // neither is before the other
-    Concurrent,
+    Concurrent = 3,
 }
 
-impl Precedence {
-    // The number by which the answer is known.
-    pub fn rank(self) -> u8
-        ensures { result ≡ rank self }
-    {
-        match self {
-            Precedence::Same => 0,
-            Precedence::Precedes => 1,
-            Precedence::Follows => 2,
-            Precedence::Concurrent => 3,
-        }
+// The number of an answer.
+impl From<Precedence> for u8 {
+    ghost from_gives = { λ order n. n ≡ rank order };
+
+    fn from(order: Precedence) -> u8 {
+        order as u8
     }
 }

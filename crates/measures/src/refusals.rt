@@ -2,33 +2,45 @@
 ghost use Rattle.std.specs.Prelude.{◌≡◌};
 ghost use Rattle.measures.specs.Refusals.{number, fault, counted};
 
-// The answers no, in the order of their numbers.
-#[derive(Clone, Copy, PartialEq, Eq, Debug)]
+use thiserror::Error;
+
+// The answers no, each with the number by which reports and documents name it.
+#[derive(Clone, Copy, PartialEq, Eq, Debug, Error)]
 pub enum Refusal {
-    // fewer than twelve bytes
-    PatternTooShort,
-    // the first byte is not 0x20
-    NotAPattern,
-    // the number of states is not from 1 to 64
-    StateCount,
-    // the number of labels is not from 1 to 64
-    LabelCount,
-    // the start state is no state
-    StartState,
-    // a final state is no state
-    FinalStates,
-    // bytes of a table, or a relabelling's count, are missing
-    TableTooShort,
-    // an entry of a table is no state, or no inner label
-    EntryTooLarge,
-    // the limit is above 65,534
-    SpanLimit,
-    // the first byte is missing, or not 0x30
-    NotARelabelling,
+    #[error("fewer than twelve bytes")]
+    PatternTooShort = 13,
+    #[error("the first byte is not 0x20")]
+    NotAPattern = 14,
+    #[error("the number of states is not from 1 to 64")]
+    StateCount = 15,
+    #[error("the number of labels is not from 1 to 64")]
+    LabelCount = 16,
+    #[error("the start state is no state")]
+    StartState = 17,
+    #[error("a final state is no state")]
+    FinalStates = 18,
+    #[error("bytes of a table, or a relabelling's count, are missing")]
+    TableTooShort = 19,
+    #[error("an entry of a table is no state, or no inner label")]
+    EntryTooLarge = 20,
+    #[error("the limit is above 65,534")]
+    SpanLimit = 21,
+    #[error("the first byte is missing, or not 0x30")]
+    NotARelabelling = 22,
+}
+
+// The number of a refusal.
+impl From<Refusal> for u8 {
+    ghost from_gives = { λ refusal n. n ≡ number refusal };
+
+    fn from(refusal: Refusal) -> u8 {
+        refusal as u8
+    }
 }
 
 // A refusal, and the byte of the input where it was met.
-#[derive(Clone, Copy, PartialEq, Eq, Debug)]
+#[derive(Clone, Copy, PartialEq, Eq, Debug, Error)]
+#[error("{refusal}, at byte {place}")]
 pub struct Fault {
     pub refusal: Refusal,
     pub place: usize,
@@ -39,26 +51,6 @@ impl Fault {
         ensures { result ≡ fault refusal place }
     {
         Fault { refusal, place }
-    }
-}
-
-impl Refusal {
-    // The number by which reports and documents name the refusal.
-    pub fn number(self) -> u8
-        ensures { result ≡ number self }
-    {
-        match self {
-            Refusal::PatternTooShort => 13,
-            Refusal::NotAPattern => 14,
-            Refusal::StateCount => 15,
-            Refusal::LabelCount => 16,
-            Refusal::StartState => 17,
-            Refusal::FinalStates => 18,
-            Refusal::TableTooShort => 19,
-            Refusal::EntryTooLarge => 20,
-            Refusal::SpanLimit => 21,
-            Refusal::NotARelabelling => 22,
-        }
     }
 }
 
