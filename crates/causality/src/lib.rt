@@ -6,7 +6,7 @@ pub mod merging;
 pub mod stamps;
 
 pub use merging::{Cell, have_rows, merge_cell, merge_rows};
-pub use stamps::compare;
+pub use stamps::{Stamp, compare};
 
 // A number of marks of one unit.
 pub type Clock = u16;

@@ -8,24 +8,33 @@ ghost use Rattle.causality.specs.Comparing.{OrdersMarks};
 use super::Clock;
 use history::{MAX_UNITS, Precedence, Refusal};
 
-// How the mark of unit i with stamp p stands to the mark of unit j with stamp q.
-pub fn compare(p: &[Clock], q: &[Clock], i: usize, j: usize) -> Result<Precedence, Refusal>
-    ensures answer { result ≡ compare_answer p.now q.now i j }
-    ensures order { OrdersMarks p.now q.now i j result }
-{
-    compare_entries(p, q, i, j)
+// The stamp of a mark, and the unit that made the mark.
+#[derive(Clone, Copy, PartialEq, Eq, Debug)]
+pub struct Stamp<'a> {
+    pub clocks: &'a [Clock],
+    pub unit: usize,
 }
 
-// The answer by the entries i and j of both stamps.
-fn compare_entries(p: &[Clock], q: &[Clock], i: usize, j: usize) -> Result<Precedence, Refusal>
-    ensures { result ≡ compare_answer p.now q.now i j }
+// How the mark with stamp p stands to the mark with stamp q.
+pub fn compare(p: Stamp<'_>, q: Stamp<'_>) -> Result<Precedence, Refusal>
+    ensures answer { result ≡ compare_answer p.entry.clocks.now q.entry.clocks.now p.entry.unit q.entry.unit }
+    ensures order { OrdersMarks p.entry.clocks.now q.entry.clocks.now p.entry.unit q.entry.unit result }
 {
-    if !are_stamps(p.len(), q.len()) {
+    compare_entries(p, q)
+}
+
+// The answer by the entries of both units in both stamps.
+fn compare_entries(p: Stamp<'_>, q: Stamp<'_>) -> Result<Precedence, Refusal>
+    ensures { result ≡ compare_answer p.entry.clocks.now q.entry.clocks.now p.entry.unit q.entry.unit }
+{
+    if !are_stamps(p.clocks.len(), q.clocks.len()) {
         return Err(Refusal::StampLength);
     }
-    if i >= p.len() || j >= p.len() {
+    if p.unit >= p.clocks.len() || q.unit >= p.clocks.len() {
         return Err(Refusal::NoSuchUnit);
     }
+    let (i, j) = (p.unit, q.unit);
+    let (p, q) = (p.clocks, q.clocks);
     let same = i == j && p[i] == q[i];
     Ok(first_of(same, p[i] <= q[i], q[j] <= p[j]))
 }

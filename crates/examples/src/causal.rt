@@ -1,5 +1,5 @@
 // Messages that move on, stamps that are compared, and rows that are merged.
-use causality::{Cell, compare, merge_cell, merge_rows};
+use causality::{Cell, Stamp, compare, merge_cell, merge_rows};
 use grid::Grid;
 use history::{Handling, Post};
 use measures::{FlowCount, merge_value, merge_values};
@@ -20,9 +20,11 @@ fn a_message_is_sent_once_and_received_once(rt: HostRuntime) {
     assert_eq!(rt; handled(Post::Delivered, Handling::Receiving), Err(9));
 }
 
-// The number of the answer, or the refusal's.
+// The number of the answer for the stamps p of unit i and q of unit j, or the refusal's.
 fn compared(p: &[u16], q: &[u16], i: usize, j: usize) -> Result<u8, u8> {
-    compare(p, q, i, j).map(u8::from).map_err(u8::from)
+    let p = Stamp { clocks: p, unit: i };
+    let q = Stamp { clocks: q, unit: j };
+    compare(p, q).map(u8::from).map_err(u8::from)
 }
 
 // Unit 0 marks a and b, unit 2 marks d, unit 1 hears of a and d and marks e; unit 0 hears of e and of a further mark of unit 1, and marks c.
