@@ -1,5 +1,5 @@
 -- What the stamps of two marks say of their order.
-use Rattle.std.specs.Prelude.{ℕ, cond, ◌&&◌, List, length, None, Option, Result, ◌==◌, nat_le, nat_lt, slice_index}
+use Rattle.std.specs.Prelude.{ℕ, if◌then◌else◌, ◌&&◌, List, length, None, Option, Result, ◌==◌, nat_le, nat_lt, slice_index}
 use Rattle.history.specs.declared.precedence.Precedence.{Precedence}
 use Rattle.history.specs.declared.precedence.Precedence.TheVariants.{Same, Precedes, Follows, Concurrent}
 use Rattle.history.specs.declared.refusals.Refusal.{Refusal}
@@ -26,7 +26,8 @@ Ordered ev u i v j Concurrent = (Here u i v j → ⊥) × (Before ev u i v j →
 
 -- The answer for the stamps p and q of marks of the units u and v.
 abbrev pub compared : (ℕ → ℕ) → (ℕ → ℕ) → ℕ → ℕ → Precedence
-compared p q u v = cond (u == v && p u == q u) Same (cond (nat_le (p u) (q u)) Precedes (cond (nat_le (q v) (p v)) Follows Concurrent))
+compared p q u v =
+    if u == v && p u == q u then Same else (if nat_le (p u) (q u) then Precedes else (if nat_le (q v) (p v) then Follows else Concurrent))
 
 -- Are the stamps equally long, from 1 to the most units that a board has? Are both units below that length?
 abbrev pub compare_refusal : List ℕ → List ℕ → ℕ → ℕ → Option Refusal

@@ -1,5 +1,5 @@
 -- The refusals of a board and of a comparison, with their numbers, and how questions are asked.
-use Rattle.std.specs.Prelude.{ℕ, Bool, cond, Some, Option}
+use Rattle.std.specs.Prelude.{ℕ, Bool, if◌then◌else◌, Some, Option}
 use Rattle.history.specs.declared.refusals.Refusal.{Refusal}
 use Rattle.history.specs.declared.refusals.Refusal.TheVariants.{UnitCount, MessageCount, MemoryTooShort, NoSuchUnit, NoSuchMessage, NoSuchLabel, SentBefore, NeverSent, ReceivedBefore, ClockFull, StampLength}
 
@@ -19,4 +19,4 @@ number StampLength = 12
 
 -- A question, what a no gives, and the questions after it: the first no decides.
 abbrev pub ask : {X : Type 0} → Bool → X → Option X → Option X
-ask good x rest = cond good rest (Some x)
+ask good x rest = if good then rest else Some x

@@ -1,5 +1,5 @@
 -- Cells, and the rules for rows of cells.
-use Rattle.std.specs.Prelude.{ℕ, suc, Bool, true, false, cond, ◌&&◌, ◌==◌, nat_lt}
+use Rattle.std.specs.Prelude.{ℕ, suc, Bool, true, false, if◌then◌else◌, ◌&&◌, ◌==◌, nat_lt}
 
 -- A cell of a row tells of one unit: the clock is the number of its marks that are known, the flag says whether the last of these is an immediate predecessor of what comes next.
 pub record Cell (V : Type 0) : Type 0 where
@@ -18,7 +18,7 @@ nothing = record { start = tt; make = λ r u l. tt }
 
 -- f, but x at u
 abbrev pub put : {A : Type 0} → (ℕ → A) → ℕ → A → ℕ → A
-put f u x j = cond (j == u) x (f j)
+put f u x j = if j == u then x else f j
 
 -- whether b knows a mark that a does not
 abbrev pub news : {V : Type 0} → Cell V → Cell V → Bool
@@ -31,11 +31,11 @@ module _ {V : Type 0} (start : V) where
 
   -- at equal clocks the flag is yes only if both are, and where it is no the value becomes start
   abbrev pub even_cell : Cell V → Cell V → Cell V
-  even_cell a b = record { clock = a.clock; flag = a.flag && b.flag; value = cond (a.flag && b.flag) a.value start }
+  even_cell a b = record { clock = a.clock; flag = a.flag && b.flag; value = if a.flag && b.flag then a.value else start }
 
   -- A unit's cell a merged with a message's cell b: the one with the larger clock, or what equal clocks give.
   abbrev pub merged_cell : Cell V → Cell V → Cell V
-  merged_cell a b = cond (news a b) b (cond (news b a) a (even_cell a b))
+  merged_cell a b = if news a b then b else (if news b a then a else even_cell a b)
 
   abbrev pub merge_row : (ℕ → Cell V) → (ℕ → Cell V) → ℕ → Cell V
   merge_row a b j = merged_cell (a j) (b j)
@@ -43,6 +43,6 @@ module _ {V : Type 0} (start : V) where
 -- A row after its unit u made a mark with label l: the own clock grows by 1, only the own flag is yes, all other values are start.
 abbrev pub mark_row : {V : Type 0} → Payload V → ℕ → ℕ → (ℕ → Cell V) → ℕ → Cell V
 mark_row M u l r j =
-    cond (j == u)
-    (record { clock = suc (r j).clock; flag = true; value = M.make r u l })
-    (record { clock = (r j).clock; flag = false; value = M.start })
+    if j == u
+    then record { clock = suc (r j).clock; flag = true; value = M.make r u l }
+    else record { clock = (r j).clock; flag = false; value = M.start }

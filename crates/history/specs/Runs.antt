@@ -1,5 +1,5 @@
 -- What a real run can do, told by the events alone.
-use Rattle.std.specs.Prelude.{◌≡◌, ℕ, ◌<◌, Bool, true, cond, List, [], ◌∷◌, ◌++◌, length, ◌==◌}
+use Rattle.std.specs.Prelude.{◌≡◌, ℕ, ◌<◌, Bool, true, if◌then◌else◌, List, [], ◌∷◌, ◌++◌, length, ◌==◌}
 use Rattle.history.specs.Events.{Event, send, receive, mark, Logs, at, Sent, Received}
 use Rattle.history.specs.Marks.{marks}
 use Rattle.history.specs.Rows.{put}
@@ -46,7 +46,7 @@ Run z cs = Continues z silence cs
 -- each unit's own events in a list of calls, in the order handed in
 abbrev pub by_unit : List Call → Logs
 by_unit [] u = []
-by_unit (c ∷ cs) u = cond (u == c.unit) (c.act ∷ by_unit cs u) (by_unit cs u)
+by_unit (c ∷ cs) u = if u == c.unit then c.act ∷ by_unit cs u else by_unit cs u
 
 -- Two lists of calls are the same unit by unit if each unit's events in them are equal one by one, message numbers and labels included.
 abbrev pub SameByUnit : List Call → List Call → Type 0
