@@ -6,6 +6,8 @@ use Rattle.std.proofs.lemmas.List.{places, set_past}
 use Rattle.std.proofs.lemmas.List.FromFn.{length-map-range_with_len, get_or-map-range_with_len}
 use Rattle.std.proofs.lemmas.Bool.{cases_lt}
 use Rattle.std.proofs.lemmas.List.Edits.{paste_more}
+use Rattle.grid.specs.declared.RowPair.{RowPair}
+use Rattle.grid.specs.Grids.{LieWithin, with_cells}
 use Rattle.grid.specs.Rows.{tabled}
 
 -- a row below h rows lies within them
@@ -40,17 +42,19 @@ untouched xs ys at i k d h l (inr above) = grind (arith, places)
 pub length_tabled : {X : Type 0} (f : ℕ → X) (n : ℕ) → length (tabled f n) ≡ n
 length_tabled f n = length-map-range_with_len f 0 n
 
--- a row written from a function of the column, one cell more
-pub table_more : {X : Type 0} (xs cells : List X) (f : ℕ → X) (at n j : ℕ) (v : X) → at + n ≤ length xs → j < n → cells ≡ paste xs at (tabled f n) j → v ≡ f j → set cells (at + j) v ≡ paste xs at (tabled f n) (j + 1)
-table_more xs cells f at n j v fits hj e is =
-    let len = length_tabled f n in
-    ap (λ zs. set zs (at + j) v) e
-    ∙ ap (set (paste xs at (tabled f n) j) (at + j)) (is ∙ sym (get_or-map-range_with_len f 0 n j j v hj (omega arith)))
-    ∙ paste_more xs at (tabled f n) j v (omega arith) (omega arith)
+-- A loop over columns that has written f 0, f 1, .. to the first j cells of a row.
+module _ {X : Type 0} (rows : RowPair) (xs cells : List X) (f : ℕ → X) (j : ℕ) (inside : LieWithin rows (length xs)) (hj : j < rows.width) (e : cells ≡ with_cells xs rows f j) where
+  -- one cell more
+  pub column_written : (v : X) → v ≡ f j → set cells (rows.to * rows.width + j) v ≡ with_cells xs rows f (j + 1)
+  column_written v is =
+      let len = length_tabled f rows.width in
+      ap (λ zs. set zs (rows.to * rows.width + j) v) e
+      ∙ ap (set (with_cells xs rows f j) (rows.to * rows.width + j)) (is ∙ sym (get_or-map-range_with_len f 0 rows.width j j v hj (omega arith)))
+      ∙ paste_more xs (rows.to * rows.width) (tabled f rows.width) j v (omega arith) (omega arith)
 
--- a loop over columns that has written the first j cells of row b: cell j of any row is as it was
-pub column_kept : {X : Type 0} (xs cells : List X) (f : ℕ → X) (n a b j : ℕ) (d : X) → j < n → b * n + n ≤ length xs → cells ≡ paste xs (b * n) (tabled f n) j → get_or cells (a * n + j) d ≡ get_or xs (a * n + j) d
-column_kept xs cells f n a b j d hj fits e =
-    let len = length_tabled f n in
-    ap (λ zs. get_or zs (a * n + j) d) e
-    ∙ untouched xs (tabled f n) (b * n) j (a * n + j) d (omega arith) (omega arith) (apart a b n j hj)
+  -- cell j of any row is as it was
+  pub column_kept : (r : ℕ) (d : X) → get_or cells (r * rows.width + j) d ≡ get_or xs (r * rows.width + j) d
+  column_kept r d =
+      let len = length_tabled f rows.width in
+      ap (λ zs. get_or zs (r * rows.width + j) d) e
+      ∙ untouched xs (tabled f rows.width) (rows.to * rows.width) j (r * rows.width + j) d (omega arith) (omega arith) (apart r rows.to rows.width j hj)
