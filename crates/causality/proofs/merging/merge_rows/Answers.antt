@@ -11,8 +11,8 @@ loop-j-preserved c =
     let r = c.in_ok-rows in
     let l = c.loop-j in
     record {
-      clocks = clocks_more cs _ fs _ r.rows l.j r.ensures.clocks r.ensures.flags c.loop-j-test.true l.invariant.clocks l.invariant.flags _ c.merge_column.ensures.clocks;
-      flags = flags_more cs _ fs _ r.rows l.j r.ensures.clocks r.ensures.flags c.loop-j-test.true l.invariant.clocks l.invariant.flags _ c.merge_column.ensures.flags;
+      clocks = clocks_more cs _ fs _ r.rows l.j r.ensures.clocks r.ensures.flags (omega arith) l.invariant.clocks l.invariant.flags _ c.merge_column.ensures.clocks;
+      flags = flags_more cs _ fs _ r.rows l.j r.ensures.clocks r.ensures.flags (omega arith) l.invariant.clocks l.invariant.flags _ c.merge_column.ensures.flags;
       clocks_memory = search rules;
       flags_memory = search rules;
     }
