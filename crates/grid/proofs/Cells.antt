@@ -15,7 +15,7 @@ pub row_fits : (r h n : ℕ) → r < h → r * n + n ≤ h * n
 row_fits r h n l = omega (arith, mul-le-mul_right n l, suc-mul r n)
 
 -- cell j of row a lies before row b, or past the first j cells of it
-pub apart : (a b n j : ℕ) → j < n → (a * n + j < b * n) ⊎ (b * n + j ≤ a * n + j)
+apart : (a b n j : ℕ) → j < n → (a * n + j < b * n) ⊎ (b * n + j ≤ a * n + j)
 apart a b n j h =
     elim (cases_lt a b) [
       | inl l ↦ inl (omega (arith, row_fits a b n l))
@@ -39,15 +39,12 @@ pub untouched : {X : Type 0} (xs ys : List X) (at i k : ℕ) (d : X) → at + i 
 untouched xs ys at i k d h l (inl below) = search (rules, places)
 untouched xs ys at i k d h l (inr above) = grind (arith, places)
 
-pub length_tabled : {X : Type 0} (f : ℕ → X) (n : ℕ) → length (tabled f n) ≡ n
-length_tabled f n = length-map-range_with_len f 0 n
-
 -- A loop over columns that has written f 0, f 1, .. to the first j cells of a row.
 module _ {X : Type 0} (rows : RowPair) (xs cells : List X) (f : ℕ → X) (j : ℕ) (inside : LieWithin rows (length xs)) (hj : j < rows.width) (e : cells ≡ with_cells xs rows f j) where
   -- one cell more
   pub column_written : (v : X) → v ≡ f j → set cells (rows.to * rows.width + j) v ≡ with_cells xs rows f (j + 1)
   column_written v is =
-      let len = length_tabled f rows.width in
+      let len = length-map-range_with_len f 0 rows.width in
       ap (λ zs. set zs (rows.to * rows.width + j) v) e
       ∙ ap (set (with_cells xs rows f j) (rows.to * rows.width + j)) (is ∙ sym (get_or-map-range_with_len f 0 rows.width j j v hj (omega arith)))
       ∙ paste_more xs (rows.to * rows.width) (tabled f rows.width) j v (omega arith) (omega arith)
@@ -55,6 +52,6 @@ module _ {X : Type 0} (rows : RowPair) (xs cells : List X) (f : ℕ → X) (j : 
   -- cell j of any row is as it was
   pub column_kept : (r : ℕ) (d : X) → get_or cells (r * rows.width + j) d ≡ get_or xs (r * rows.width + j) d
   column_kept r d =
-      let len = length_tabled f rows.width in
+      let len = length-map-range_with_len f 0 rows.width in
       ap (λ zs. get_or zs (r * rows.width + j) d) e
       ∙ untouched xs (tabled f rows.width) (rows.to * rows.width) j (r * rows.width + j) d (omega arith) (omega arith) (apart r rows.to rows.width j hj)
