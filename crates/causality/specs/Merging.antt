@@ -1,24 +1,44 @@
--- Rows of cells in memories of clocks, flags and values, one merged into another.
-use Rattle.std.specs.Prelude.{ℕ, ◌+◌, ◌*◌, Bool, false, ◌&&◌, List, [], ◌==◌, slice_index, slice_index_or}
-use Rattle.grid.specs.Rows.{row_inside}
+-- Cells of rows in memories of clocks, flags and values, and one row merged into another.
+use Rattle.std.specs.Prelude.{ℕ, ◌+◌, ◌*◌, Bool, false, ◌&&◌, List, [], ◌==◌, slice_index, slice_index_or, Result}
+use Rattle.grid.specs.declared.Grid.{Grid}
+use Rattle.grid.specs.declared.RowPair.{RowPair}
+use Rattle.grid.specs.declared.errors.GridError.{GridError}
+use Rattle.grid.specs.declared.errors.GridError.TheVariants.{NoSuchRow, UnequalWidths}
+use Rattle.grid.specs.Grids.{ask, has_rows, with_cells}
 use Rattle.history.specs.Rows.{Cell, merge_row}
+use Rattle.causality.specs.declared.merging.Cell as code
 
--- a cell that carries nothing
-abbrev pub cell : ℕ → Bool → Cell (Unit {0})
-cell clock flag = record { clock = clock; flag = flag; value = tt }
+-- a cell of the code, as the rules speak of it
+abbrev pub cell : {V : Type 0} → code.Cell V → Cell V
+cell c = record { clock = c.clock; flag = c.flag; value = c.value }
 
--- row r of n cells; past the end of the values a cell carries `start`
+-- the cell at a place; past the end of the values it carries `start`
+abbrev pub cell_at : {V : Type 0} → V → List ℕ → List Bool → List V → ℕ → Cell V
+cell_at start clocks flags values place = record { clock = slice_index clocks place; flag = slice_index_or flags place false; value = slice_index_or values place start }
+
+-- row r of n cells
 abbrev pub cells : {V : Type 0} → V → List ℕ → List Bool → List V → ℕ → ℕ → ℕ → Cell V
-cells start clocks flags values n r j = record { clock = slice_index clocks (r * n + j); flag = slice_index_or flags (r * n + j) false; value = slice_index_or values (r * n + j) start }
+cells start clocks flags values n r j = cell_at start clocks flags values (r * n + j)
 
--- row `to` once row `from` is merged into it
-abbrev pub merged : {V : Type 0} → V → List ℕ → List Bool → List V → ℕ → ℕ → ℕ → ℕ → Cell V
-merged start clocks flags values n from to = merge_row start (cells start clocks flags values n to) (cells start clocks flags values n from)
+-- the cells of row `to`, once those of row `from` are merged into them
+abbrev pub merged : {V : Type 0} → V → List ℕ → List Bool → List V → RowPair → ℕ → Cell V
+merged start clocks flags values rows =
+    merge_row start
+    (cells start clocks flags values rows.width rows.to)
+    (cells start clocks flags values rows.width rows.from)
 
 -- the same without values
-abbrev pub merged_bare : List ℕ → List Bool → ℕ → ℕ → ℕ → ℕ → Cell (Unit {0})
-merged_bare clocks flags n from to = merged {V = Unit {0}} tt clocks flags [] n from to
+abbrev pub merged_bare : List ℕ → List Bool → RowPair → ℕ → Cell (Unit {0})
+merged_bare clocks flags rows = merged {V = Unit {0}} tt clocks flags [] rows
 
--- whether grids of c and f cells are equally wide, and both have both rows
-abbrev pub has_rows : ℕ → ℕ → ℕ → ℕ → ℕ → ℕ → Bool
-has_rows n w c f from to = n == w && (row_inside c n from && (row_inside c n to && (row_inside f w from && row_inside f w to)))
+-- all clocks and all flags, once row `from` is merged into row `to`
+abbrev pub merged_clocks : List ℕ → List Bool → RowPair → List ℕ
+merged_clocks clocks flags rows = with_cells clocks rows (λ j. (merged_bare clocks flags rows j).clock) rows.width
+
+abbrev pub merged_flags : List ℕ → List Bool → RowPair → List Bool
+merged_flags clocks flags rows = with_cells flags rows (λ j. (merged_bare clocks flags rows j).flag) rows.width
+
+-- What is asked before a merge: whether the grids are equally wide, and whether each has both rows.
+abbrev pub ask_rows : {X : Type 0} → Grid ℕ → Grid Bool → ℕ → ℕ → Result X GridError → Result X GridError
+ask_rows clocks flags from to next =
+    ask (clocks.width == flags.width) UnequalWidths (ask (has_rows clocks from to && has_rows flags from to) NoSuchRow next)

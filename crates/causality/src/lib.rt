@@ -5,7 +5,7 @@
 pub mod merging;
 pub mod stamps;
 
-pub use merging::{Cell, have_rows, merge_cell, merge_rows};
+pub use merging::{Cell, merge_cell, merge_rows, rows_to_merge};
 pub use stamps::{Stamp, compare};
 
 // A number of marks of one unit.

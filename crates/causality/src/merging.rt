@@ -1,32 +1,45 @@
 // The merge of a message's row into a unit's row, cell by cell.
-ghost use Rattle.std.specs.Prelude.{◌≡◌, ◌+◌, ◌*◌, ◌<◌, ◌≤◌, false, ◌&&◌, length, if◌then◌else◌, slice_index, slice_index_or, slice_set};
-ghost use Rattle.grid.specs.Rows.{with_row, tabled};
+ghost use Rattle.std.specs.Prelude.{◌≡◌, ◌+◌, ◌*◌, ◌<◌, ◌≤◌, length, if◌then◌else◌, IfOk, is_ok, slice_set};
+ghost use Rattle.grid.specs.Grids.{row_pair, LieWithin, SameMemory};
 ghost use Rattle.history.specs.Rows.{merged_cell, news};
-ghost use Rattle.causality.specs.Merging.{cell, merged_bare, has_rows};
+ghost use Rattle.causality.specs.Merging.{cell, cell_at, merged_bare, ask_rows, merged_clocks, merged_flags};
 
 use super::Clock;
-use grid::{Grid, put};
+use grid::{Grid, GridError, RowPair, at_or, put};
 
-// What a row knows of one unit: how many of its marks, and whether the last of these is an immediate predecessor of what comes next.
+// What a row knows of one unit: how many of its marks, whether the last of these is an immediate predecessor of what comes next, and what
+// is carried along the flows that end there: (), where nothing is measured.
 #[derive(Clone, Copy, PartialEq, Eq, Debug)]
-pub struct Cell {
+pub struct Cell<V> {
     pub clock: Clock,
     pub flag: bool,
+    pub value: V,
 }
 
-impl Cell {
+impl<V: Copy> Cell<V> {
+    // The cell at a place of clocks, flags and values; past the end of the values it carries `start`.
+    pub fn at(start: V, clocks: &[Clock], flags: &[bool], values: &[V], place: usize) -> Cell<V>
+        ensures { cell result ≡ cell_at start clocks.now flags.now values.now place }
+    {
+        Cell {
+            clock: at_or(clocks, place, 0),
+            flag: at_or(flags, place, false),
+            value: at_or(values, place, start),
+        }
+    }
+
     // Whether the other cell knows a mark that this one does not.
-    pub fn is_behind(self, other: Cell) -> bool
-        ensures { result ≡ news (cell self.clock self.flag) (cell other.clock other.flag) }
+    pub fn is_behind(self, other: Cell<V>) -> bool
+        ensures { result ≡ news (cell self) (cell other) }
     {
         self.clock < other.clock
     }
 }
 
-// A unit's cell merged with a message's: the one with the larger clock; at equal clocks the flag is yes only if both are.
-pub fn merge_cell(own: Cell, other: Cell) -> Cell
-    ensures clock { result.clock ≡ (merged_cell tt (cell own.clock own.flag) (cell other.clock other.flag)).clock }
-    ensures flag { result.flag ≡ (merged_cell tt (cell own.clock own.flag) (cell other.clock other.flag)).flag }
+// A unit's cell merged with a message's: the one with the larger clock. At equal clocks both tell of one mark: the flag is yes only if both
+// are, and where it is no the value becomes `start`.
+pub fn merge_cell<V: Copy>(start: V, own: Cell<V>, other: Cell<V>) -> Cell<V>
+    ensures { cell result ≡ merged_cell start (cell own) (cell other) }
 {
     if own.is_behind(other) {
         return other;
@@ -38,88 +51,60 @@ pub fn merge_cell(own: Cell, other: Cell) -> Cell
     Cell {
         clock: own.clock,
         flag,
+        value: if flag { own.value } else { start },
     }
-}
-
-// Merges a message's cell into cell j of a unit's row, of which the parts begin with the row.
-fn merge_into(clocks: &mut [Clock], flags: &mut [bool], j: usize, other: Cell)
-    requires clocks { j < length clocks.old }
-    requires flags { j < length flags.old }
-    ensures clocks { clocks.new ≡ slice_set clocks.old j (merged_cell tt (cell (slice_index clocks.old j) (slice_index_or flags.old j false)) (cell other.clock other.flag)).clock }
-    ensures flags { flags.new ≡ slice_set flags.old j (merged_cell tt (cell (slice_index clocks.old j) (slice_index_or flags.old j false)) (cell other.clock other.flag)).flag }
-{
-    let own = Cell {
-        clock: clocks[j],
-        flag: flags[j],
-    };
-    let merged = merge_cell(own, other);
-    put(clocks, j, merged.clock);
-    put(flags, j, merged.flag);
 }
 
 // Merges cell j of row `from` into cell j of row `to`; the other row's cell is taken out by value first.
-fn merge_column(
-    clocks: &mut [Clock],
-    flags: &mut [bool],
-    n: usize,
+#[tactic(auto, using(grid::proofs::Cells::put_at))]
+fn merge_column(clocks: &mut [Clock], flags: &mut [bool], rows: RowPair, j: usize)
+    requires column { j < rows.width }
+    requires clocks { LieWithin rows (length clocks.old) }
+    requires flags { LieWithin rows (length flags.old) }
+    ensures clocks { clocks.new ≡ slice_set clocks.old (rows.to * rows.width + j) (merged_bare clocks.old flags.old rows j).clock }
+    ensures flags { flags.new ≡ slice_set flags.old (rows.to * rows.width + j) (merged_bare clocks.old flags.old rows j).flag }
+{
+    let other = Cell::at((), clocks, flags, &[], rows.from * rows.width + j);
+    let own = Cell::at((), clocks, flags, &[], rows.to * rows.width + j);
+    let merged = merge_cell((), own, other);
+    put(&mut clocks[rows.to * rows.width..], j, merged.clock);
+    put(&mut flags[rows.to * rows.width..], j, merged.flag);
+}
+
+// The rows of a merge: the grids are equally wide, and each has both rows.
+pub fn rows_to_merge(
+    clocks: &Grid<'_, Clock>,
+    flags: &Grid<'_, bool>,
     from: usize,
     to: usize,
-    j: usize,
-)
-    requires column { j < n }
-    requires from_rows { (from * n + n ≤ length clocks.old) × (from * n + n ≤ length flags.old) }
-    requires to_rows { (to * n + n ≤ length clocks.old) × (to * n + n ≤ length flags.old) }
-    ensures clocks { clocks.new ≡ slice_set clocks.old (to * n + j) (merged_bare clocks.old flags.old n from to j).clock }
-    ensures flags { flags.new ≡ slice_set flags.old (to * n + j) (merged_bare clocks.old flags.old n from to j).flag }
+) -> Result<RowPair, GridError>
+    ensures answer { result ≡ ask_rows clocks.now flags.now from to (Ok (row_pair clocks.now from to)) }
+    ensures clocks { IfOk result (λ rows. LieWithin rows (length clocks.now.cells.now)) }
+    ensures flags { IfOk result (λ rows. LieWithin rows (length flags.now.cells.now)) }
 {
-    let other = Cell {
-        clock: clocks[from * n + j],
-        flag: flags[from * n + j],
-    };
-    merge_into(&mut clocks[to * n..], &mut flags[to * n..], j, other);
-}
-
-// Merges row `from` into row `to`, column by column.
-fn merge_cells(clocks: &mut [Clock], flags: &mut [bool], n: usize, from: usize, to: usize)
-    requires from_rows { (from * n + n ≤ length clocks.old) × (from * n + n ≤ length flags.old) }
-    requires to_rows { (to * n + n ≤ length clocks.old) × (to * n + n ≤ length flags.old) }
-    ensures clocks { clocks.new ≡ with_row clocks.old n to (tabled (λ j. (merged_bare clocks.old flags.old n from to j).clock) n) }
-    ensures flags { flags.new ≡ with_row flags.old n to (tabled (λ j. (merged_bare clocks.old flags.old n from to j).flag) n) }
-{
-    for j in 0..n {
-        merge_column(clocks, flags, n, from, to, j);
+    if clocks.width != flags.width {
+        return Err(GridError::UnequalWidths);
     }
+    clocks.row_pair(from, to)?;
+    flags.row_pair(from, to)
 }
 
-// Whether the grids are equally wide and both have both rows.
-pub fn have_rows(clocks: &Grid<'_, Clock>, flags: &Grid<'_, bool>, from: usize, to: usize) -> bool
-    ensures { result ≡ has_rows clocks.now.width flags.now.width (length clocks.now.cells.now) (length flags.now.cells.now) from to }
-{
-    clocks.width == flags.width
-        && clocks.has_row(from)
-        && clocks.has_row(to)
-        && flags.has_row(from)
-        && flags.has_row(to)
-}
-
-// Merges row `from` of clocks and flags, a message's, into row `to`, a unit's, the unit's own cell too. Answers whether the grids are
-// equally wide and have both rows; where not, nothing changes.
+// Merges row `from` of clocks and flags, a message's, into row `to`, a unit's, the unit's own cell too. What is refused changes nothing.
 pub fn merge_rows(
     clocks: &mut Grid<'_, Clock>,
     flags: &mut Grid<'_, bool>,
     from: usize,
     to: usize,
-) -> bool
-    ensures answer { result ≡ has_rows clocks.old.width flags.old.width (length clocks.old.cells.now) (length flags.old.cells.now) from to }
-    ensures clocks { clocks.new.cells.now ≡ (if result then with_row clocks.old.cells.now clocks.old.width to (tabled (λ j. (merged_bare clocks.old.cells.now flags.old.cells.now clocks.old.width from to j).clock) clocks.old.width) else clocks.old.cells.now) }
-    ensures flags { flags.new.cells.now ≡ (if result then with_row flags.old.cells.now clocks.old.width to (tabled (λ j. (merged_bare clocks.old.cells.now flags.old.cells.now clocks.old.width from to j).flag) clocks.old.width) else flags.old.cells.now) }
-    ensures widths { (clocks.new.width ≡ clocks.old.width) × (flags.new.width ≡ flags.old.width) }
-    ensures lenders { (clocks.new.cells.ghost_name ≡ clocks.old.cells.ghost_name) × (flags.new.cells.ghost_name ≡ flags.old.cells.ghost_name) }
+) -> Result<(), GridError>
+    ensures answer { result ≡ ask_rows clocks.old flags.old from to (Ok tt) }
+    ensures clocks { clocks.new.cells.now ≡ (if is_ok result then merged_clocks clocks.old.cells.now flags.old.cells.now (row_pair clocks.old from to) else clocks.old.cells.now) }
+    ensures flags { flags.new.cells.now ≡ (if is_ok result then merged_flags clocks.old.cells.now flags.old.cells.now (row_pair clocks.old from to) else flags.old.cells.now) }
+    ensures clocks_memory { SameMemory clocks.old clocks.new }
+    ensures flags_memory { SameMemory flags.old flags.new }
 {
-    let inside = have_rows(clocks, flags, from, to);
-    if inside {
-        let n = clocks.width;
-        merge_cells(clocks.cells, flags.cells, n, from, to);
+    let rows = rows_to_merge(clocks, flags, from, to)?;
+    for j in 0..rows.width {
+        merge_column(clocks.cells, flags.cells, rows, j);
     }
-    inside
+    Ok(())
 }

@@ -1,6 +1,6 @@
 // Messages that move on, stamps that are compared, and rows that are merged.
 use causality::{Cell, Stamp, compare, merge_cell, merge_rows};
-use grid::Grid;
+use grid::{Grid, GridError};
 use history::{Handling, Post};
 use measures::{FlowCount, merge_value, merge_values};
 use std::test::Fail;
@@ -59,21 +59,24 @@ fn cells_that_meet(rt: HostRuntime) {
     let old = Cell {
         clock: 1,
         flag: true,
+        value: (),
     };
     let new = Cell {
         clock: 2,
         flag: true,
+        value: (),
     };
     let passed = Cell {
         clock: 2,
         flag: false,
+        value: (),
     };
-    assert_eq!(rt; merge_cell(old, new), new);
-    assert_eq!(rt; merge_cell(new, old), new);
-    assert_eq!(rt; merge_cell(old, passed), passed);
-    assert_eq!(rt; merge_cell(new, new), new);
-    assert_eq!(rt; merge_cell(new, passed), passed);
-    assert_eq!(rt; merge_cell(passed, new), passed);
+    assert_eq!(rt; merge_cell((), old, new), new);
+    assert_eq!(rt; merge_cell((), new, old), new);
+    assert_eq!(rt; merge_cell((), old, passed), passed);
+    assert_eq!(rt; merge_cell((), new, new), new);
+    assert_eq!(rt; merge_cell((), new, passed), passed);
+    assert_eq!(rt; merge_cell((), passed, new), passed);
 }
 
 // Unit 0 marked and sent messages 0 and 1; unit 1 received 0, marked and sent 2; unit 2 received 1 and now receives 2, which overtook it.
@@ -87,8 +90,11 @@ fn a_message_overtaken_by_an_indirect_one(rt: HostRuntime) {
     ];
     let mut clock_rows = Grid::new(&mut clocks, 3);
     let mut flag_rows = Grid::new(&mut flags, 3);
-    assert_eq!(rt; merge_rows(&mut clock_rows, &mut flag_rows, 6, 2), false);
-    assert_eq!(rt; merge_rows(&mut clock_rows, &mut flag_rows, 5, 2), true);
+    assert_eq!(rt;
+        merge_rows(&mut clock_rows, &mut flag_rows, 6, 2),
+        Err(GridError::NoSuchRow)
+    );
+    assert_eq!(rt; merge_rows(&mut clock_rows, &mut flag_rows, 5, 2), Ok(()));
     assert_eq!(rt;
         clocks,
         [1, 0, 0, 1, 1, 0, 1, 1, 0, 1, 0, 0, 1, 0, 0, 1, 1, 0, 7]
@@ -109,13 +115,15 @@ fn two_messages_from_one_mark(rt: HostRuntime) -> Result<(), Fail> {
     let flagged = Cell {
         clock: 1,
         flag: true,
+        value: 5,
     };
     let passed = Cell {
         clock: 1,
         flag: false,
+        value: 1,
     };
-    assert_eq!(rt; merge_value(&count, flagged, flagged, 5, 5), 5);
-    assert_eq!(rt; merge_value(&count, flagged, passed, 5, 1), 1);
+    assert_eq!(rt; merge_value(&count, flagged, flagged), 5);
+    assert_eq!(rt; merge_value(&count, flagged, passed), 1);
     let mut clocks = [1, 0, 1, 0, 2, 1];
     let mut flags = [true, false, true, false, true, true];
     let mut values = [5, 1, 5, 1, 3, 4, 9];
@@ -124,15 +132,15 @@ fn two_messages_from_one_mark(rt: HostRuntime) -> Result<(), Fail> {
     let mut value_rows = Grid::new(&mut values, 2);
     assert_eq!(rt;
         merge_values(&count, &clock_rows, &flag_rows, &mut value_rows, 3, 1),
-        false
+        Err(GridError::NoSuchRow)
     );
     assert_eq!(rt;
         merge_values(&count, &clock_rows, &flag_rows, &mut value_rows, 0, 1),
-        true
+        Ok(())
     );
     assert_eq!(rt;
         merge_values(&count, &clock_rows, &flag_rows, &mut value_rows, 2, 0),
-        true
+        Ok(())
     );
     assert_eq!(rt; values, [3, 4, 5, 1, 3, 4, 9]);
     Ok(())

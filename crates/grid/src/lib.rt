@@ -1,18 +1,30 @@
 // Rows of cells, one after another, in memory that the caller lends.
 // One grid type serves clocks, flags and values of every kind; row r is the part that begins at cell r * width.
-// A call for a row or a column that is not there answers false or None, and changes nothing.
+// A call for a row or a column that is not there is refused, or answers none, and changes nothing.
 #![tactic(auto)]
 
-ghost use Rattle.std.specs.Prelude.{◌≡◌, ◌+◌, ◌*◌, ◌<◌, ◌≤◌, ◌&&◌, length, replicate, if◌then◌else◌, None, nat_lt, slice_index_or, slice_set};
-ghost use Rattle.std.proofs.Math.Seq.{paste};
-ghost use Rattle.std.specs.List.{slice_get};
-ghost use Rattle.grid.specs.Rows.{row_inside, row as row_of, with_row};
+ghost use Rattle.std.specs.Prelude.{◌≡◌, ◌+◌, ◌*◌, ◌≤◌, ◌&&◌, length, replicate, if◌then◌else◌, IfOk, is_ok, nat_lt, slice_get, slice_index_or, slice_set};
+ghost use Rattle.grid.specs.declared.errors.GridError.TheVariants.{NoSuchRow, NoSuchColumn};
+ghost use Rattle.grid.specs.Rows.{row as row_of, with_row};
+ghost use Rattle.grid.specs.Grids.{ask, has_row, has_rows, row_pair, LieWithin, SameMemory};
+
+mod errors;
+
+pub use errors::GridError;
 
 // Rows of `width` cells each.
 #[derive(Drop)]
 pub struct Grid<'a, T> {
     pub cells: &'a mut [T],
     pub width: usize,
+}
+
+// Two rows of `width` cells, one that is read and one that is written.
+#[derive(Clone, Copy, PartialEq, Eq, Debug)]
+pub struct RowPair {
+    pub width: usize,
+    pub from: usize,
+    pub to: usize,
 }
 
 impl<'a, T> Grid<'a, T> {
@@ -29,69 +41,96 @@ impl<'a, T> Grid<'a, T> {
 impl<T: Copy> Grid<'_, T> {
     // Whether all of a row lies within the cells.
     pub fn has_row(&self, row: usize) -> bool
-        ensures { result ≡ row_inside (length self.now.cells.now) self.now.width row }
+        ensures { result ≡ has_row self.now row }
     {
-        fits(self.cells.len(), self.width, row)
+        let Some(start) = row.checked_mul(self.width) else {
+            return false;
+        };
+        start <= self.cells.len() && self.width <= self.cells.len() - start
+    }
+
+    // Two rows that are both there.
+    pub fn row_pair(&self, from: usize, to: usize) -> Result<RowPair, GridError>
+        ensures answer { result ≡ ask (has_rows self.now from to) NoSuchRow (Ok (row_pair self.now from to)) }
+        ensures inside { IfOk result (λ rows. LieWithin rows (length self.now.cells.now)) }
+    {
+        if self.has_row(from) && self.has_row(to) {
+            Ok(RowPair {
+                width: self.width,
+                from,
+                to,
+            })
+        } else {
+            Err(GridError::NoSuchRow)
+        }
     }
 
     // One cell, by value; none where the row or the column is not there.
     pub fn cell(&self, row: usize, column: usize) -> Option<T>
-        ensures { result ≡ (if row_inside (length self.now.cells.now) self.now.width row && nat_lt column self.now.width then slice_get self.now.cells.now (row * self.now.width + column) else None) }
+        ensures { result ≡ (if has_row self.now row && nat_lt column self.now.width then slice_get self.now.cells.now (row * self.now.width + column) else None) }
     {
         if self.has_row(row) && column < self.width {
-            read(self.cells, row * self.width + column)
+            self.cells.get(row * self.width + column).copied()
         } else {
             None
         }
     }
 
-    // Sets one cell, and answers whether it is there.
-    pub fn set_cell(&mut self, row: usize, column: usize, v: T) -> bool
-        ensures answer { result ≡ (row_inside (length self.old.cells.now) self.old.width row && nat_lt column self.old.width) }
-        ensures cells { self.new.cells.now ≡ (if result then slice_set self.old.cells.now (row * self.old.width + column) v else self.old.cells.now) }
-        ensures width { self.new.width ≡ self.old.width }
-        ensures lender { self.new.cells.ghost_name ≡ self.old.cells.ghost_name }
+    // Sets one cell.
+    #[tactic(auto, using(crate::proofs::Cells::put_at))]
+    pub fn set_cell(&mut self, row: usize, column: usize, v: T) -> Result<(), GridError>
+        ensures answer { result ≡ ask (has_row self.old row) NoSuchRow (ask (nat_lt column self.old.width) NoSuchColumn (Ok tt)) }
+        ensures cells { self.new.cells.now ≡ (if is_ok result then slice_set self.old.cells.now (row * self.old.width + column) v else self.old.cells.now) }
+        ensures memory { SameMemory self.old self.new }
     {
-        let inside = self.has_row(row) && column < self.width;
-        if inside {
-            let n = self.width;
-            put_in_row(self.cells, n, row, column, v);
+        let start = self.start_of(row)?;
+        if column >= self.width {
+            return Err(GridError::NoSuchColumn);
         }
-        inside
+        put(&mut self.cells[start..], column, v);
+        Ok(())
     }
 
-    // Sets each cell of a row, and answers whether the row is there.
-    pub fn fill_row(&mut self, row: usize, v: T) -> bool
-        ensures answer { result ≡ row_inside (length self.old.cells.now) self.old.width row }
-        ensures cells { self.new.cells.now ≡ (if result then with_row self.old.cells.now self.old.width row (replicate self.old.width v) else self.old.cells.now) }
-        ensures width { self.new.width ≡ self.old.width }
-        ensures lender { self.new.cells.ghost_name ≡ self.old.cells.ghost_name }
+    // Sets each cell of a row.
+    pub fn fill_row(&mut self, row: usize, v: T) -> Result<(), GridError>
+        ensures answer { result ≡ ask (has_row self.old row) NoSuchRow (Ok tt) }
+        ensures cells { self.new.cells.now ≡ (if is_ok result then with_row self.old.cells.now self.old.width row (replicate self.old.width v) else self.old.cells.now) }
+        ensures memory { SameMemory self.old self.new }
     {
-        let inside = self.has_row(row);
-        if inside {
-            let n = self.width;
-            reset_row(self.cells, n, row, v);
-        }
-        inside
+        let start = self.start_of(row)?;
+        let end = start + self.width;
+        fill(&mut self.cells[start..end], v);
+        Ok(())
     }
 
-    // Copies one row to another, and answers whether both are there.
-    pub fn copy_row(&mut self, from: usize, to: usize) -> bool
-        ensures answer { result ≡ (row_inside (length self.old.cells.now) self.old.width from && row_inside (length self.old.cells.now) self.old.width to) }
-        ensures cells { self.new.cells.now ≡ (if result then with_row self.old.cells.now self.old.width to (row_of self.old.cells.now self.old.width from) else self.old.cells.now) }
-        ensures width { self.new.width ≡ self.old.width }
-        ensures lender { self.new.cells.ghost_name ≡ self.old.cells.ghost_name }
+    // Copies one row to another.
+    pub fn copy_row(&mut self, from: usize, to: usize) -> Result<(), GridError>
+        ensures answer { result ≡ ask (has_rows self.old from to) NoSuchRow (Ok tt) }
+        ensures cells { self.new.cells.now ≡ (if is_ok result then with_row self.old.cells.now self.old.width to (row_of self.old.cells.now self.old.width from) else self.old.cells.now) }
+        ensures memory { SameMemory self.old self.new }
     {
-        let inside = self.has_row(from) && self.has_row(to);
-        if inside {
-            let n = self.width;
-            copy(self.cells, n, from, to);
+        let read = self.start_of(from)?;
+        let written = self.start_of(to)?;
+        let end = read + self.width;
+        self.cells.copy_within(read..end, written);
+        Ok(())
+    }
+
+    // The place of a row's first cell.
+    fn start_of(&self, row: usize) -> Result<usize, GridError>
+        ensures { result ≡ ask (has_row self.now row) NoSuchRow (Ok (row * self.now.width)) }
+    {
+        if self.has_row(row) {
+            Ok(row * self.width)
+        } else {
+            Err(GridError::NoSuchRow)
         }
-        inside
     }
 }
 
 // Sets one cell of a part; a place past its end changes nothing.
+// A write through `get_mut` doesn't prove: its contract says nothing of the slice after the loan.
+#[tactic(auto, using(std::proofs::lemmas::List::set_past))]
 pub fn put<T: Copy>(part: &mut [T], j: usize, v: T)
     ensures { part.new ≡ slice_set part.old j v }
 {
@@ -104,72 +143,14 @@ pub fn put<T: Copy>(part: &mut [T], j: usize, v: T)
 pub fn at_or<T: Copy>(cells: &[T], i: usize, other: T) -> T
     ensures { result ≡ slice_index_or cells.now i other }
 {
-    if i < cells.len() { cells[i] } else { other }
+    cells.get(i).copied().unwrap_or(other)
 }
 
-// The cell at a place, by value.
-fn at<T: Copy>(cells: &[T], i: usize) -> T
-    requires { i < length cells.now }
-    ensures { result ≡ slice_index_or cells.now i result }
+// Sets each cell of a part. The slice's own `fill` asks for a clone that cannot fail, which `Copy` does not say.
+fn fill<T: Copy>(part: &mut [T], v: T)
+    ensures { part.new ≡ replicate (length part.old) v }
 {
-    cells[i]
-}
-
-// The cell at a place, by value, or none past the end.
-fn read<T: Copy>(cells: &[T], i: usize) -> Option<T>
-    ensures { result ≡ slice_get cells.now i }
-{
-    if i < cells.len() {
-        Some(cells[i])
-    } else {
-        None
-    }
-}
-
-// Whether all of a row lies within `len` cells.
-fn fits(len: usize, width: usize, row: usize) -> bool
-    ensures { result ≡ row_inside len width row }
-{
-    match row.checked_mul(width) {
-        Some(start) => width <= len && start <= len - width,
-        None => false,
-    }
-}
-
-// Fills the first n cells of a part.
-fn reset<T: Copy>(part: &mut [T], n: usize, v: T)
-    requires { n ≤ length part.old }
-    ensures { part.new ≡ paste part.old 0 (replicate n v) n }
-{
-    for i in 0..n {
-        put(part, i, v);
-    }
-}
-
-// Sets cell j of the part that begins at cell row * n.
-fn put_in_row<T: Copy>(cells: &mut [T], n: usize, row: usize, j: usize, v: T)
-    requires { row * n ≤ length cells.old }
-    ensures { cells.new ≡ slice_set cells.old (row * n + j) v }
-{
-    put(&mut cells[row * n..], j, v);
-}
-
-// Fills a row.
-fn reset_row<T: Copy>(cells: &mut [T], n: usize, row: usize, v: T)
-    requires { row * n + n ≤ length cells.old }
-    ensures { cells.new ≡ with_row cells.old n row (replicate n v) }
-{
-    reset(&mut cells[row * n..], n, v);
-}
-
-// Copies one row to another, each cell taken out by value first.
-fn copy<T: Copy>(cells: &mut [T], n: usize, from: usize, to: usize)
-    requires from { from * n + n ≤ length cells.old }
-    requires to { to * n + n ≤ length cells.old }
-    ensures { cells.new ≡ with_row cells.old n to (row_of cells.old n from) }
-{
-    for j in 0..n {
-        let v = at(cells, from * n + j);
-        put(&mut cells[to * n..], j, v);
+    for cell in part.iter_mut() {
+        *cell = v;
     }
 }

@@ -1,10 +1,13 @@
-use Rattle.std.proofs.Common.{length}
-use Rattle.measures.proofs.Merges.{value_rows}
+use Rattle.std.proofs.Common.{arith, rules}
+use Rattle.measures.proofs.Merges.{values_more}
 use Rattle.measures.proofs.merging.merge_values.Goals as goal
 
-pub merge_value_cells-requires : goal.merge_value_cells-requires
-merge_value_cells-requires g c =
+pub loop-j-preserved : goal.loop-j-preserved
+loop-j-preserved g c =
     let a = c.args in
-    let rows = value_rows a.clocks.now.width a.flags.now.width a.values.now.width (length a.clocks.now.cells.now) (length a.flags.now.cells.now) (length a.values.now.cells.now) a.from a.to
-    c.if-inside.ensures in
-    record { from_rows = rows.0; to_rows = rows.1 }
+    let l = c.loop-j in
+    record {
+      values = values_more (g.M.Measure.meaning a.m.now).start a.clocks.now.cells.now a.flags.now.cells.now a.values.now.cells.now _ c.in_ok-rows.rows l.j
+          c.in_ok-rows.ensures.values (omega arith) l.invariant.values _ c.merge_value_column.ensures;
+      memory = search rules;
+    }

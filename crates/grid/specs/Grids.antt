@@ -1,0 +1,36 @@
+-- Grids: the rows that they have, how their calls refuse, and what no call changes.
+use Rattle.std.specs.Prelude.{◌≡◌, ℕ, ◌+◌, ◌*◌, ◌≤◌, Bool, ◌&&◌, List, length, if◌then◌else◌, Err, Result}
+use Rattle.std.proofs.Math.Seq.{paste}
+use Rattle.grid.specs.declared.Grid.{Grid}
+use Rattle.grid.specs.declared.RowPair.{RowPair}
+use Rattle.grid.specs.declared.errors.GridError.{GridError}
+use Rattle.grid.specs.Rows.{row_inside, tabled}
+
+-- A question, what a no gives, and the answer where it is yes: the first no decides.
+abbrev pub ask : {X : Type 0} → Bool → GridError → Result X GridError → Result X GridError
+ask good error next = if good then next else Err error
+
+module _ {T : Type 0} (g : Grid T) where
+  -- whether all of row r lies within the cells of the grid
+  abbrev pub has_row : ℕ → Bool
+  has_row r = row_inside (length g.cells.now) g.width r
+
+  abbrev pub has_rows : ℕ → ℕ → Bool
+  has_rows from to = has_row from && has_row to
+
+  abbrev pub row_pair : ℕ → ℕ → RowPair
+  row_pair from to = record { width = g.width; from = from; to = to }
+
+-- both rows lie within so many cells
+pub record LieWithin (rows : RowPair) (cells : ℕ) : Type 0 where
+  pub from : rows.from * rows.width + rows.width ≤ cells
+  pub to : rows.to * rows.width + rows.width ≤ cells
+
+-- xs with f 0, f 1, .. in the first k cells of the row that is written
+abbrev pub with_cells : {X : Type 0} → List X → RowPair → (ℕ → X) → ℕ → List X
+with_cells xs rows f k = paste xs (rows.to * rows.width) (tabled f rows.width) k
+
+-- The grid is as wide as before, and its cells are still the same lender's.
+pub record SameMemory {T : Type 0} (old new : Grid T) : Type 0 where
+  pub width : new.width ≡ old.width
+  pub lender : new.cells.ghost_name ≡ old.cells.ghost_name
