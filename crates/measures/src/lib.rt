@@ -13,6 +13,7 @@ pub mod merging;
 pub mod patterns;
 pub mod refusals;
 pub mod relabellings;
+mod sizes;
 pub mod spans;
 mod tables;
 

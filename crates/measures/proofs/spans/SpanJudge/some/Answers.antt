@@ -8,5 +8,5 @@ returns c =
     let m = c.args.self.now in
     record {
       answer = c.is_within.ensures;
-      judges = shows_within m.labels m.limit m.limited ◌||◌ (λ (v : Ends). v.shortest) (λ k. refl) (shortest_joins m.labels m.limit);
+      judges = shows_within m.labels.number m.limit m.limited ◌||◌ (λ (v : Ends). v.shortest) (λ k. refl) (shortest_joins m.labels.number m.limit);
     }
