@@ -9,5 +9,5 @@ returns c =
     let h = m.head in
     record {
       answer = c.all_final.ensures;
-      judges = shows_accepted h.states h.labels h.start m.table h.labels_counted h.start_state m.complete h.finals ◌&&◌ (λ (set : ℕ). within set h.finals) (within_or h.finals) (within_one h.finals);
+      judges = shows_accepted h.states.number h.labels.number h.start m.table h.labels.counted h.start_state m.complete h.finals ◌&&◌ (λ (set : ℕ). within set h.finals) (within_or h.finals) (within_one h.finals);
     }

@@ -9,5 +9,5 @@ returns c =
     let h = m.head in
     record {
       answer = c.some_final.ensures;
-      judges = shows_accepted h.states h.labels h.start m.table h.labels_counted h.start_state m.complete h.finals ◌||◌ (λ (set : ℕ). meets set h.finals) (meets_or h.finals) (meets_one h.finals);
+      judges = shows_accepted h.states.number h.labels.number h.start m.table h.labels.counted h.start_state m.complete h.finals ◌||◌ (λ (set : ℕ). meets set h.finals) (meets_or h.finals) (meets_one h.finals);
     }

@@ -6,5 +6,5 @@ returns g c =
     let m = c.args.self.now in
     record {
       answer = c.all.ensures.answer;
-      judges = translated_judges m.table.entries m.table.count (g.M.Measure.meaning m.inner) (g.met.M.Measure.lawful m.inner).counted.0 c.all.ensures.judges;
+      judges = translated_judges m.table.entries m.table.count.number (g.M.Measure.meaning m.inner) (g.met.M.Measure.lawful m.inner).counted.0 c.all.ensures.judges;
     }
