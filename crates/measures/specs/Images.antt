@@ -46,8 +46,8 @@ module _ (f : ℕ → ℕ) where
   image_from (suc n) set q m =
       image_from_one_more n set q (λ k. let r = image_from n set q k in (r.0, omega (arith, r.1), r.2, r.3)) m
 
-  pub image_is : (n set : ℕ) → Image f n set (image f n set)
-  image_is n set = record { into = image_into n set; from = image_from n set }
+  pub image_is : (n set r : ℕ) → r ≡ image f n set → Image f n set r
+  image_is n set r e = subst (Image f n set) (sym e) (record { into = image_into n set; from = image_from n set })
 
   pub image_or : (n a b : ℕ) → image f n (bit_or a b) ≡ bit_or (image f n a) (image f n b)
   image_or n a b =

@@ -34,6 +34,14 @@ pub struct Pattern {
 }
 
 impl Head {
+    // The number of entries of the table.
+    fn entries(&self) -> usize
+        ensures value { result ≡ self.now.states.number * self.now.labels.number }
+        ensures few { result ≤ 4096 }
+    {
+        self.states.number as usize * self.labels.number as usize
+    }
+
     // Whether some state of the set is final.
     fn some_final(&self, set: u64) -> bool
         ensures { result ≡ meets set self.now.finals }

@@ -46,8 +46,7 @@ impl Pattern {
         ensures recognizes { IfOk result (λ p. Recognizes input.now (state_sets p.head.states.number p.head.labels.number p.head.start p.table) (λ set. meets set p.head.finals) (λ set. within set p.head.finals)) }
     {
         let head = read_head(input)?;
-        let count = head.states.number as usize * head.labels.number as usize;
-        let table = read_table(input, 12, count, head.states.number)?;
+        let table = read_table(input, 12, head.entries(), head.states.number)?;
         Ok(Pattern {
             head,
             table: with_zeros(table),
@@ -58,6 +57,6 @@ impl Pattern {
     pub fn size(&self) -> usize
         ensures { result ≡ 12 + self.now.head.states.number * self.now.head.labels.number }
     {
-        12 + self.head.states.number as usize * self.head.labels.number as usize
+        12 + self.head.entries()
     }
 }
