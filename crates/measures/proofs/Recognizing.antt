@@ -1,8 +1,7 @@
 -- A pattern recognizes the words that its bytes accept.
-use Rattle.std.proofs.Common.{◌≡◌, ℕ, ◌+◌, ◌-◌, ◌*◌, ◌^◌, ◌<◌, ◌≤◌, Bool, ◌⊎◌, ◌↔◌, List, [], ◌∷◌, map, length, get_or, replicate, sym, refl, ap, ◌∙◌, subst, inl, inr, ⊎_elim}
+use Rattle.std.proofs.Common.{◌≡◌, ℕ, ◌+◌, ◌*◌, ◌^◌, ◌<◌, ◌≤◌, Bool, ◌⊎◌, ◌↔◌, List, [], ◌∷◌, map, get_or, sym, refl, ap, ◌∙◌, subst, inl, inr, ⊎_elim, arith}
 use lib.Bits.{bit_or}
-use Rattle.std.proofs.lemmas.List.{get_or_append_left, get_or-append_right, get_or-replicate, get_or_past, length-replicate}
-use Rattle.std.proofs.lemmas.Bool.{cases_lt}
+use Rattle.std.proofs.lemmas.Grind.{common_steps}
 use Rattle.std.proofs.lemmas.Bool.Decides.{same_from_decides, Decides-eqb}
 use Rattle.std.specs.List.{AllByRecursion}
 use Rattle.bitset.specs.Sets.{bit, Member, has, meets, within}
@@ -14,16 +13,9 @@ use Rattle.measures.specs.Formats.{labels_in, table_in, padded, PatternOf}
 use Rattle.measures.specs.Acceptance.{state_after, accepts, Any, Recognizes}
 use Rattle.measures.specs.Accepting.{carried_one, only_member, meets_one, within_one}
 
-zeros : (n i : ℕ) → ◌≡◌ {A = ℕ} (get_or (replicate n 0) i 0) 0
-zeros n i = elim (cases_lt i n) [ inl h ↦ get_or-replicate n i 0 0 h | inr h ↦ get_or_past (replicate n 0) i 0 (simp length-replicate h) ]
-
 -- the zeros after a table change no entry
 padded_at : (n : ℕ) (t : List ℕ) (i : ℕ) → get_or (padded n t) i 0 ≡ get_or t i 0
-padded_at n t i =
-    elim (cases_lt i (length t)) [
-      | inl h ↦ get_or_append_left t (replicate (n - length t) 0) 0 i h
-      | inr h ↦ get_or-append_right t (replicate (n - length t) 0) (length t) i 0 refl h ∙ zeros (n - length t) (i - length t) ∙ sym (get_or_past t i 0 h)
-    ]
+padded_at n t i = grind (arith, common_steps)
 
 leads_same : (d e : Letter → ℕ → ℕ) → ((l q : ℕ) → d l q ≡ e l q) → (q : ℕ) (w : Word) → leads d q w ≡ leads e q w
 leads_same d e same q [] = refl

@@ -1,6 +1,8 @@
 -- Each accepted mark's value is the join along the longest flows that end there.
-use Rattle.std.proofs.Common.{◌≡◌, ℕ, List, [], ◌∷◌, map, reverse, Some, sym, refl, ap, ◌∙◌, subst, ap₂}
-use Rattle.std.proofs.lemmas.List.{reverse-reverse}
+use Rattle.std.proofs.Common.{◌≡◌, ℕ, List, [], ◌∷◌, map, reverse, Some, sym, ap, ◌∙◌, subst, ap₂}
+use Rattle.std.proofs.Math.Path.{fun_ext}
+use Rattle.std.proofs.lemmas.List.{map-id, reverse-reverse}
+use Rattle.std.proofs.lemmas.Simd.{map-map}
 use Rattle.history.specs.Counting.{Exactly}
 use Rattle.history.specs.Events.{Events, mark}
 use Rattle.history.specs.Flows.{Place, Longest, word}
@@ -25,12 +27,10 @@ use Rattle.measures.proofs.Worths.{worth_mark}
 module _ {V : Type 0} (m : Meaning V) (admits : V → Type 0) (laws : Lawful m admits) (ev : Events) where
   -- along flows with the last mark in front, and along these turned round
   back_words : (fs : List (List Place)) → map (carried_back m ev) fs ≡ map (λ f. carried m (word ev f)) (map reverse fs)
-  back_words [] = refl
-  back_words (f ∷ fs) = ap₂ (λ (a : V) (b : List V). a ∷ b) (carried_back_word m ev f) (back_words fs)
+  back_words fs = ap (λ (g : List Place → V). map g fs) (fun_ext (carried_back_word m ev)) ∙ sym (map-map (λ f. carried m (word ev f)) reverse fs)
 
   words_back : (fs : List (List Place)) → map (carried_back m ev) (map reverse fs) ≡ map (λ f. carried m (word ev f)) fs
-  words_back [] = refl
-  words_back (f ∷ fs) = ap₂ (λ (a : V) (b : List V). a ∷ b) (carried_back_word m ev (reverse f) ∙ ap (λ (g : List Place). carried m (word ev g)) (reverse-reverse f)) (words_back fs)
+  words_back fs = back_words (map reverse fs) ∙ ap (map (λ f. carried m (word ev f))) (map-map reverse reverse fs ∙ ap (λ (g : List Place → List Place). map g fs) (fun_ext reverse-reverse) ∙ map-id fs)
 
   some_same : (x y : V) → Some x ≡ Some y → x ≡ y
   some_same x y e = cc

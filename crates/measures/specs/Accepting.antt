@@ -1,9 +1,9 @@
 -- Automata over sets of states: the laws, the states that words reach, and the accepted words.
-use Rattle.std.specs.Prelude.{◌≡◌, ℕ, ◌+◌, ◌*◌, ◌^◌, ◌<◌, ◌≤◌, Bool, true, false, cond, ◌&&◌, ◌||◌, ◌↔◌, List, [], ◌∷◌, Decides, bit_or, nat_lt, slice_index, refl}
+use Rattle.std.specs.Prelude.{◌≡◌, ℕ, ◌+◌, ◌*◌, ◌^◌, ◌<◌, ◌≤◌, Bool, cond, ◌&&◌, ◌||◌, ◌↔◌, List, [], ◌∷◌, Decides, bit_or, nat_lt, slice_index, refl}
 use Rattle.std.proofs.Common.{ap, sym, subst, ◌∙◌, inl, inr, ⊎_elim, arith, pow_pos}
 use Rattle.std.proofs.Math.Pow.{pow-lt}
 use Rattle.std.proofs.lemmas.Nat.{mul-add-lt, or_comm, or_lt}
-use Rattle.std.proofs.lemmas.Bool.{lt-ltb, le-ltb, ltb-true}
+use Rattle.std.proofs.lemmas.Bool.{cond_both, cond-false, lt-ltb, le-ltb, ltb-true}
 use Rattle.std.proofs.lemmas.Bool.Decides.{same_from_decides, Decides-at, Decides-like, Decides-or, Decides-and}
 use Rattle.bitset.specs.Sets.{Member, meets, within}
 use Rattle.bitset.proofs.Bits.{bit_pow, bit_pow_self, or_assoc, or_pos}
@@ -49,14 +49,6 @@ within_one f q =
     (λ m k i. subst (λ (j : ℕ). Member j f) (bit_pow q k i) m)
     (within_members (2 ^ q) f)
 
-by_label : (t : Bool) (x a b y z : ℕ) → x ≡ bit_or y z → cond t x (bit_or a b) ≡ bit_or (cond t y a) (cond t z b)
-by_label true x a b y z e = e
-by_label false x a b y z e = refl
-
-admitted_by_label : (t : Bool) (x a n : ℕ) → (t ≡ true → (0 < x) × (x < n)) → (0 < a) × (a < n) → (0 < cond t x a) × (cond t x a < n)
-admitted_by_label true x a n h ha = h refl
-admitted_by_label false x a n h ha = ha
-
 module _ (states labels start : ℕ) (table : List ℕ) (counted : (0 < labels) × (labels ≤ 64)) (begins : start < states) (complete : (k : ℕ) → k < states * labels → slice_index table k < states) where
   next_below : (l q : ℕ) → l < labels → q < states → next labels table l q < states
   next_below l q hl hq = complete (q * labels + l) (omega (arith, mul-add-lt q labels l states hq hl))
@@ -65,14 +57,14 @@ module _ (states labels start : ℕ) (table : List ℕ) (counted : (0 < labels) 
   state_sets_lawful = record {
     counted = counted;
     start_admitted = (pow_pos start, pow-lt begins);
-    step_admitted = λ a l ha. admitted_by_label (nat_lt l labels) _ a (2 ^ states)
+    step_admitted = λ a l ha. cond_both (nat_lt l labels) _ a (λ set. (0 < set) × (set < 2 ^ states))
         (λ t. (image_pos (next labels table l) states a ha.0 ha.1, image_below (next labels table l) states a states (λ q h. next_below l q (ltb-true l labels t) h)))
-        ha;
+        (λ _. ha);
     join_admitted = λ a b ha hb. (or_pos a b ha.0, or_lt states a b ha.1 hb.1);
-    unlabelled = λ a l h. ap (λ (t : Bool). cond t (image (next labels table l) states a) a) (le-ltb l labels (omega arith));
+    unlabelled = λ a l h. cond-false (nat_lt l labels) _ a (le-ltb l labels (omega arith));
     commutes = λ a b _ _. or_comm a b;
     associates = λ a b c _ _ _. or_assoc a b c;
-    distributes = λ a b l _ _ _. by_label (nat_lt l labels) _ a b _ _ (image_or (next labels table l) states a b);
+    distributes = λ a b l _ _ h. rw (lt-ltb l labels h) (image_or (next labels table l) states a b);
   }
 
   leads_below : (q : ℕ) (w : Word) → q < states → Labels labels w → leads (next labels table) q w < states

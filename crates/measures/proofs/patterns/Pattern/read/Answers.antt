@@ -1,4 +1,4 @@
-use Rattle.std.proofs.Common.{ℕ, ◌*◌, ◌<◌, get_or, rules, arith}
+use Rattle.std.proofs.Common.{ℕ, ◌*◌, ◌<◌, get_or, arith}
 use Rattle.std.proofs.lemmas.Grind.{common_steps}
 use Rattle.measures.specs.Formats.{PatternOf}
 use Rattle.measures.proofs.Recognizing.{recognizes}
