@@ -1,6 +1,6 @@
 // Why a pattern, a relabelling or a measure is refused.
 ghost use Rattle.std.specs.Prelude.{◌≡◌};
-ghost use Rattle.measures.specs.Refusals.{number, fault, counted};
+ghost use Rattle.measures.specs.Refusals.{number, fault};
 
 // The answers no, in the order of their numbers.
 #[derive(Clone, Copy, PartialEq, Eq, Debug)]
@@ -60,11 +60,4 @@ impl Refusal {
             Refusal::NotARelabelling => 22,
         }
     }
-}
-
-// Whether a number of states or of labels is from 1 to 64.
-pub(crate) fn is_counted(n: u8) -> bool
-    ensures { result ≡ counted n }
-{
-    1 <= n && n <= 64
 }

@@ -8,7 +8,7 @@ use super::Measure;
 use super::judges::Judge;
 use super::refusals::{Fault, Refusal};
 use super::sizes::Count;
-use super::tables::{read_table, with_zeros};
+use super::tables::{Rest, with_zeros};
 
 // The inner label of each label; the first `count` entries are used. Its memory is fixed, since nothing here allocates.
 #[derive(Clone, Copy)]
@@ -34,25 +34,29 @@ impl LabelTable {
         if entry < n { entry } else { 0 }
     }
 
-    // The label count of the table whose bytes begin at the byte `at` of the input.
-    fn read_count(input: &[u8], at: usize) -> Result<Count, Fault>
-        ensures { MatchResult result (λ n. (count_fault input.now at ≡ None) × (n.number ≡ count_in input.now at) × (at + 2 ≤ length input.now)) (λ f. count_fault input.now at ≡ Some f) }
+    // The label count of the table at the front of the rest.
+    fn read_count(rest: Rest<'_>) -> Result<Count, Fault>
+        ensures { MatchResult result (λ n. (count_fault rest.entry.input.now rest.entry.place ≡ None) × (n.number ≡ count_in rest.entry.input.now rest.entry.place) × (rest.entry.place + 2 ≤ length rest.entry.input.now)) (λ f. count_fault rest.entry.input.now rest.entry.place ≡ Some f) }
     {
-        match input.get(at..) {
-            Some([0x30]) => Err(Fault::at(Refusal::TableTooShort, input.len())),
+        match rest.bytes() {
+            Some([0x30]) => Err(Fault::at(Refusal::TableTooShort, rest.input.len())),
             Some([0x30, count, ..]) => {
-                Count::new(*count).ok_or(Fault::at(Refusal::LabelCount, at + 1))
+                Count::new(*count).ok_or(Fault::at(Refusal::LabelCount, rest.place + 1))
             }
-            _ => Err(Fault::at(Refusal::NotARelabelling, at)),
+            _ => Err(Fault::at(Refusal::NotARelabelling, rest.place)),
         }
     }
 
-    // The table whose bytes begin at the byte `at` of the input.
-    fn read(input: &[u8], at: usize, n: u8) -> Result<LabelTable, Fault>
-        ensures { MatchResult result (λ t. (relabelling_fault input.now at n ≡ None) × (t.count.number ≡ count_in input.now at) × (t.entries ≡ padded 64 (entries_in input.now at))) (λ f. relabelling_fault input.now at n ≡ Some f) }
+    // The table at the front of the rest.
+    fn read(rest: Rest<'_>, n: u8) -> Result<LabelTable, Fault>
+        ensures { MatchResult result (λ t. (relabelling_fault rest.entry.input.now rest.entry.place n ≡ None) × (t.count.number ≡ count_in rest.entry.input.now rest.entry.place) × (t.entries ≡ padded 64 (entries_in rest.entry.input.now rest.entry.place))) (λ f. relabelling_fault rest.entry.input.now rest.entry.place n ≡ Some f) }
     {
-        let count = Self::read_count(input, at)?;
-        let entries = read_table(input, at + 2, count.number as usize, n)?;
+        let count = Self::read_count(rest)?;
+        let after = Rest {
+            place: rest.place + 2,
+            ..rest
+        };
+        let entries = after.table(count.number as usize, n)?;
         Ok(LabelTable {
             entries: with_zeros(entries),
             count,
@@ -67,7 +71,8 @@ impl<M: Measure> Relabelling<M> {
         M: Drop,
         ensures { MatchResult result (λ m. (relabelling_fault input.now at (M.meaning inner).labels ≡ None) × (m.table.count.number ≡ count_in input.now at) × (m.table.entries ≡ padded 64 (entries_in input.now at)) × (m.inner ≡ inner)) (λ f. relabelling_fault input.now at (M.meaning inner).labels ≡ Some f) }
     {
-        let table = LabelTable::read(input, at, inner.labels())?;
+        let rest = Rest { input, place: at };
+        let table = LabelTable::read(rest, inner.labels())?;
         Ok(Relabelling { table, inner })
     }
 

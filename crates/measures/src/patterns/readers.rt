@@ -7,7 +7,7 @@ ghost use Rattle.measures.specs.Formats.{head_fault, pattern_fault, little_endia
 
 use super::super::refusals::{Fault, Refusal};
 use super::super::sizes::Count;
-use super::super::tables::{read_table, with_zeros};
+use super::super::tables::{Rest, with_zeros};
 use super::{Head, Pattern};
 use bitset::is_below;
 
@@ -46,7 +46,8 @@ impl Pattern {
         ensures recognizes { IfOk result (λ p. Recognizes input.now (state_sets p.head.states.number p.head.labels.number p.head.start p.table) (λ set. meets set p.head.finals) (λ set. within set p.head.finals)) }
     {
         let head = read_head(input)?;
-        let table = read_table(input, 12, head.entries(), head.states.number)?;
+        let rest = Rest { input, place: 12 };
+        let table = rest.table(head.entries(), head.states.number)?;
         Ok(Pattern {
             head,
             table: with_zeros(table),
