@@ -10,11 +10,14 @@ module _ {V : Type 0} (m : Meaning V) where
   carried_push v (x ∷ w) l = carried_push (m.step v x) w l
 
   -- what is carried along the first letters of a word: one letter more, and all of them
+  pub carried_more : (w : Word) (i : ℕ) → i < length w → carried m (take (i + 1) w) ≡ m.step (carried m (take i w)) (get_or w i 0)
+  carried_more w i h = ap (carried m) (take_more w i 0 h) ∙ carried_push m.start (take i w) (get_or w i 0)
+
   pub carried_take_more : (v x : V) (w : Word) (i : ℕ) → i < length w → v ≡ carried m (take i w) → x ≡ m.step v (get_or w i 0) → x ≡ carried m (take (i + 1) w)
   carried_take_more v x w i h before step =
       step
       ∙ ap (λ (y : V). m.step y (get_or w i 0)) before
-      ∙ sym (ap (carried m) (take_more w i 0 h) ∙ carried_push m.start (take i w) (get_or w i 0))
+      ∙ sym (carried_more w i h)
 
   pub carried_take_all : (v : V) (w : Word) (i : ℕ) → length w ≤ i → v ≡ carried m (take i w) → v ≡ carried m w
   carried_take_all v w i h before = before ∙ ap (carried m) (take_all i w h)
