@@ -24,7 +24,7 @@ struct Head {
 }
 
 // A pattern, always complete: the table has a row for each state, with a next state for each label; what lies past it is 0.
-// Its memory is fixed, 64 rows of 64, since nothing here allocates and a pattern owns its table.
+// Its memory is fixed, with room for 64 rows of 64, since nothing here allocates and a pattern owns its table.
 #[derive(Clone, Copy)]
 pub struct Pattern {
     head: Head,
@@ -40,20 +40,6 @@ impl Head {
         ensures few { result ≤ 4096 }
     {
         self.states.number as usize * self.labels.number as usize
-    }
-
-    // Whether some state of the set is final.
-    fn some_final(&self, set: u64) -> bool
-        ensures { result ≡ meets set self.now.finals }
-    {
-        intersects(set, self.finals)
-    }
-
-    // Whether each state of the set is final.
-    fn all_final(&self, set: u64) -> bool
-        ensures { result ≡ within set self.now.finals }
-    {
-        is_subset(set, self.finals)
     }
 }
 
@@ -95,10 +81,10 @@ impl Judge for Pattern {
     ghost all_of = { λ m set. within set m.head.finals };
 
     fn some(&self, v: u64) -> bool {
-        self.head.some_final(v)
+        intersects(v, self.head.finals)
     }
 
     fn all(&self, v: u64) -> bool {
-        self.head.all_final(v)
+        is_subset(v, self.head.finals)
     }
 }

@@ -34,13 +34,6 @@ impl Span {
         }
         Ok(Span { labels, limit })
     }
-
-    // Whether a number of marks is within the limit.
-    fn is_within(&self, marks: u16) -> bool
-        ensures { result ≡ nat_le marks self.now.limit }
-    {
-        marks <= self.limit
-    }
 }
 
 impl Measure for Span {
@@ -86,10 +79,10 @@ impl Judge for Span {
     ghost all_of = { λ m v. nat_le v.longest m.limit };
 
     fn some(&self, v: Ends) -> bool {
-        self.is_within(v.shortest)
+        v.shortest <= self.limit
     }
 
     fn all(&self, v: Ends) -> bool {
-        self.is_within(v.longest)
+        v.longest <= self.limit
     }
 }
