@@ -1,9 +1,9 @@
 -- Tables as they are read.
-use Rattle.std.proofs.Common.{ltb, leb, ◌≡◌, ℕ, ◌<◌, ◌≤◌, inl, inr, Bool, cond, List, length, get_or, Some, None, sym, ap, ◌∙◌, arith}
-use Rattle.std.proofs.lemmas.Bool.{cases_lt, lt-ltb, le-leb, lt-leb, leb-false}
+use Rattle.std.proofs.Common.{ltb, leb, ◌≡◌, ℕ, ◌<◌, ◌≤◌, inl, inr, cond, List, length, get_or, Some, None, sym, ap, ◌∙◌, arith}
+use Rattle.std.proofs.lemmas.Bool.{cases_lt, cond-true, lt-ltb, le-leb, lt-leb, leb-false}
 use Rattle.std.proofs.lemmas.List.Sums.{position_or_len_is, fails_before_first}
 use Rattle.std.specs.List.{position_or_len}
-use Rattle.history.proofs.Posts.{some_none}
+use Rattle.std.proofs.lemmas.Option.{none-some}
 use Rattle.measures.specs.Formats.{first_over}
 
 module _ (bound : ℕ) (xs : List ℕ) where
@@ -17,6 +17,6 @@ module _ (bound : ℕ) (xs : List ℕ) where
   pub below_bound : first_over bound xs ≡ None → (k : ℕ) → k < length xs → get_or xs k 0 < bound
   below_bound none k l =
       elim (cases_lt (position_or_len (λ x. leb bound x) xs) (length xs)) [
-        | inl h ↦ absurd (some_none (sym (ap (λ (t : Bool). cond t (Some (position_or_len (λ x. leb bound x) xs)) None) (lt-ltb _ _ h)) ∙ none))
+        | inl h ↦ absurd (none-some _ (sym none ∙ cond-true (ltb (position_or_len (λ x. leb bound x) xs) (length xs)) _ _ (lt-ltb _ _ h)))
         | inr h ↦ leb-false bound (get_or xs k 0) (fails_before_first (λ x. leb bound x) xs k 0 (omega arith))
       ]

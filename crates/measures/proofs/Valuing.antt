@@ -1,6 +1,7 @@
 -- Each accepted mark's value is the join along the longest flows that end there.
 use Rattle.std.proofs.Common.{◌≡◌, ℕ, List, [], ◌∷◌, map, reverse, Some, sym, ap, ◌∙◌, subst, ap₂}
 use Rattle.std.proofs.Math.Path.{fun_ext}
+use Rattle.std.proofs.lemmas.Option.{none-some, same_Some}
 use Rattle.std.proofs.lemmas.List.{map-id, reverse-reverse}
 use Rattle.std.proofs.lemmas.Simd.{map-map}
 use Rattle.history.specs.Counting.{Exactly}
@@ -13,7 +14,6 @@ use Rattle.history.proofs.Flows.{flows_longest, longest_flows}
 use Rattle.history.proofs.Holds.{Holds}
 use Rattle.history.proofs.Marking.{rows_hold}
 use Rattle.history.proofs.OrderFree.{order_free}
-use Rattle.history.proofs.Posts.{some_none}
 use Rattle.history.proofs.RowOf.{Row}
 use Rattle.history.proofs.Runs.{sound_run}
 use Rattle.history.proofs.Sound.{Ranged}
@@ -32,23 +32,20 @@ module _ {V : Type 0} (m : Meaning V) (admits : V → Type 0) (laws : Lawful m a
   words_back : (fs : List (List Place)) → map (carried_back m ev) (map reverse fs) ≡ map (λ f. carried m (word ev f)) fs
   words_back fs = back_words (map reverse fs) ∙ ap (map (λ f. carried m (word ev f))) (map-map reverse reverse fs ∙ ap (λ (g : List Place → List Place). map g fs) (fun_ext reverse-reverse) ∙ map-id fs)
 
-  some_same : (x y : V) → Some x ≡ Some y → x ≡ y
-  some_same x y e = cc
-
   module _ (u i : ℕ) (x : V) where
     tally_flows : Tally m ev u i x → (f : List Place) × (fs : List (List Place)) × Exactly (Longest ev u i) (f ∷ fs) × (x ≡ join_over m ev f fs)
-    tally_flows ([], e, t) = absurd (some_none (sym t))
+    tally_flows ([], e, t) = absurd (none-some x t)
     tally_flows (f ∷ fs, e, t) = (
       reverse f,
       map reverse fs,
       flows_longest ev u i (f ∷ fs) e,
-      some_same _ _ (sym t ∙ total_joined m admits laws ev f fs)
+      same_Some _ _ (sym t ∙ total_joined m admits laws ev f fs)
           ∙ ap₂ (joined m) (carried_back_word m ev f) (back_words fs),
     )
 
     tally_any : Tally m ev u i x → (f : List Place) (fs : List (List Place)) → Exactly (Longest ev u i) (f ∷ fs) → x ≡ join_over m ev f fs
     tally_any (gs, e, t) f fs h =
-        some_same _ _
+        same_Some _ _
         (sym t
         ∙ exactly_total m admits laws ev gs (map reverse (f ∷ fs)) e (longest_flows ev u i (f ∷ fs) h)
         ∙ total_joined m admits laws ev (reverse f) (map reverse fs))

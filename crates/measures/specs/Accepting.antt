@@ -1,6 +1,6 @@
 -- Automata over sets of states: the laws, the states that words reach, and the accepted words.
-use Rattle.std.specs.Prelude.{◌≡◌, ℕ, ◌+◌, ◌*◌, ◌^◌, ◌<◌, ◌≤◌, Bool, cond, ◌&&◌, ◌||◌, ◌↔◌, List, [], ◌∷◌, Decides, bit_or, nat_lt, slice_index, refl}
-use Rattle.std.proofs.Common.{ap, sym, subst, ◌∙◌, inl, inr, ⊎_elim, arith, pow_pos}
+use Rattle.std.specs.Prelude.{◌≡◌, ℕ, ◌+◌, ◌*◌, ◌^◌, ◌<◌, ◌≤◌, Bool, ◌&&◌, ◌||◌, ◌↔◌, List, [], ◌∷◌, Decides, bit_or, nat_lt, slice_index, refl}
+use Rattle.std.proofs.Common.{ap, sym, subst, inl, inr, ⊎_elim, arith, pow_pos}
 use Rattle.std.proofs.Math.Pow.{pow-lt}
 use Rattle.std.proofs.lemmas.Nat.{mul-add-lt, or_comm, or_lt}
 use Rattle.std.proofs.lemmas.Bool.{cond_both, cond-false, lt-ltb, le-ltb, ltb-true}
@@ -11,7 +11,7 @@ use Rattle.bitset.proofs.Members.{member_or, or_member_left, or_member_right, me
 use Rattle.measures.specs.Words.{Word, Labels}
 use Rattle.measures.specs.Measures.{Lawful, carried_from, carried}
 use Rattle.measures.specs.Judges.{Judges}
-use Rattle.measures.specs.Automata.{next, leads, image, state_sets}
+use Rattle.measures.specs.Automata.{next, leads, state_sets}
 use Rattle.measures.specs.Images.{image_or, image_pow, image_below, image_pos}
 
 -- the only member of 2 ^ q is q
@@ -74,9 +74,7 @@ module _ (states labels start : ℕ) (table : List ℕ) (counted : (0 < labels) 
   carried_pow : (q : ℕ) (w : Word) → q < states → Labels labels w → carried_from (state_sets states labels start table) (2 ^ q) w ≡ 2 ^ leads (next labels table) q w
   carried_pow q [] hq ls = refl
   carried_pow q (l ∷ w) hq ls =
-      ap (λ (t : Bool). carried_from (state_sets states labels start table) (cond t (image (next labels table l) states (2 ^ q)) (2 ^ q)) w) (lt-ltb l labels ls.0)
-      ∙ ap (λ (set : ℕ). carried_from (state_sets states labels start table) set w) (image_pow (next labels table l) states q hq)
-      ∙ carried_pow (next labels table l q) w (next_below l q ls.0 hq) ls.1
+      rw (lt-ltb l labels ls.0, image_pow (next labels table l) states q hq) (carried_pow (next labels table l q) w (next_below l q ls.0 hq) ls.1)
 
   pub carried_one : (w : Word) → Labels labels w → carried (state_sets states labels start table) w ≡ 2 ^ leads (next labels table) start w
   carried_one w ls = carried_pow start w begins ls
