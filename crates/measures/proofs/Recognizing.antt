@@ -18,6 +18,9 @@ use Rattle.measures.specs.Accepting.{carried_one, only_member, meets_one, within
 padded_at : (n : ℕ) (t : List ℕ) (i : ℕ) → get_or (padded n t) i 0 ≡ get_or t i 0
 padded_at n t i = grind (arith, common_steps)
 
+pub padded_complete : (n bound count : ℕ) (t table : List ℕ) → table ≡ padded n t → ((k : ℕ) → k < count → get_or t k 0 < bound) → (k : ℕ) → k < count → get_or table k 0 < bound
+padded_complete n bound count t table is below k h = rw (is, padded_at n t k) (below k h)
+
 module _ (b : List ℕ) (states labels start finals : ℕ) (table : List ℕ) (parts : PatternOf b states labels start finals table) (counted : (0 < labels) × (labels ≤ 64)) (begins : start < states) (complete : (k : ℕ) → k < states * labels → get_or table k 0 < states) where
   state_read : (w : Word) → leads (next labels table) start w ≡ state_after b w
   state_read w =
