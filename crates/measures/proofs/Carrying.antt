@@ -1,28 +1,23 @@
 -- What the laws of a measure say along words and over lists of values.
-use Rattle.std.proofs.Common.{◌≡◌, ℕ, ◌+◌, ◌<◌, ◌≤◌, [], ◌∷◌, ◌++◌, map, length, get_or, take, drop, sym, refl, ap, ◌∙◌}
-use Rattle.std.proofs.lemmas.List.{at_drop_more, at_drop_all, take_more, take_all}
+use Rattle.std.proofs.Common.{◌≡◌, ℕ, ◌+◌, ◌<◌, ◌≤◌, [], ◌∷◌, ◌++◌, map, length, get_or, take, sym, refl, ap, ◌∙◌}
+use Rattle.std.proofs.lemmas.List.{take_more, take_all}
 use Rattle.measures.specs.Words.{Letter, Word}
 use Rattle.measures.specs.Measures.{Meaning, Spelled, Lawful, carried_from, carried, joined, Carries}
 
 module _ {V : Type 0} (m : Meaning V) where
-  -- one letter further along a word
-  pub carried_more : (v x : V) (w : Word) (i : ℕ) → i < length w → x ≡ m.step v (get_or w i 0) → carried_from m v (drop i w) ≡ carried_from m x (drop (i + 1) w)
-  carried_more v x w i h e = at_drop_more (carried_from m v) w i 0 h ∙ ap (λ (y : V). carried_from m y (drop (i + 1) w)) (sym e)
-
-  -- at the end of the word
-  pub carried_all : (v : V) (w : Word) (i : ℕ) → length w ≤ i → carried m w ≡ carried_from m v (drop i w) → v ≡ carried m w
-  carried_all v w i h e = sym (e ∙ at_drop_all (carried_from m v) w i h)
-
   pub carried_push : (v : V) (w : Word) (l : Letter) → carried_from m v (w ++ l ∷ []) ≡ m.step (carried_from m v w) l
   carried_push v [] l = refl
   carried_push v (x ∷ w) l = carried_push (m.step v x) w l
 
   -- what is carried along the first letters of a word: one letter more, and all of them
+  pub carried_more : (w : Word) (i : ℕ) → i < length w → carried m (take (i + 1) w) ≡ m.step (carried m (take i w)) (get_or w i 0)
+  carried_more w i h = ap (carried m) (take_more w i 0 h) ∙ carried_push m.start (take i w) (get_or w i 0)
+
   pub carried_take_more : (v x : V) (w : Word) (i : ℕ) → i < length w → v ≡ carried m (take i w) → x ≡ m.step v (get_or w i 0) → x ≡ carried m (take (i + 1) w)
   carried_take_more v x w i h before step =
       step
       ∙ ap (λ (y : V). m.step y (get_or w i 0)) before
-      ∙ sym (ap (carried m) (take_more w i 0 h) ∙ carried_push m.start (take i w) (get_or w i 0))
+      ∙ sym (carried_more w i h)
 
   pub carried_take_all : (v : V) (w : Word) (i : ℕ) → length w ≤ i → v ≡ carried m (take i w) → v ≡ carried m w
   carried_take_all v w i h before = before ∙ ap (carried m) (take_all i w h)

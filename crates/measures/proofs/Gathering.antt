@@ -1,5 +1,6 @@
 -- The flows that end at the last marks that a unit knows, gathered from its row.
 use Rattle.std.proofs.Common.{◌≡◌, ℕ, zero, suc, ◌<◌, true, false, ◌⊎◌, List, [], ◌∷◌, ◌++◌, Some, sym, refl, ◌∙◌, subst, ap₂, subst₂, inl, inr, ⊎_elim, arith}
+use Rattle.std.proofs.lemmas.Option.{none-some}
 use Rattle.std.proofs.lemmas.Bool.{cases_eq, cases_Bool}
 use Rattle.history.specs.Counting.{Among, Distinct, Exactly}
 use Rattle.history.specs.Events.{Events}
@@ -9,7 +10,6 @@ use Rattle.history.proofs.Truth.{Top, Truthful, top_one}
 use Rattle.history.proofs.Flows.{Flow, flow_end}
 use Rattle.history.proofs.Holds.{Known}
 use Rattle.history.proofs.Lists.{among_left, among_right, among_cases, distinct_append}
-use Rattle.history.proofs.Posts.{some_none}
 use Rattle.measures.specs.Measures.{Meaning, Lawful}
 use Rattle.measures.specs.Worths.{plus, gathered}
 use Rattle.measures.proofs.Totals.{total, total_append}
@@ -28,7 +28,7 @@ pub record Gathered {V : Type 0} (ev : Events) (m : Meaning V) (u k : ℕ) (r : 
   pub sum : gathered m r j ≡ total m ev flows
 
 total_some : {V : Type 0} (m : Meaning V) (ev : Events) (x : V) (fs : List (List Place)) → total m ev fs ≡ Some x → (f : List Place) × Among f fs
-total_some m ev x [] e = absurd (some_none (sym e))
+total_some m ev x [] e = absurd (none-some x e)
 total_some m ev x (f ∷ fs) e = (f, inl refl)
 
 module _ {V : Type 0} (ev : Events) (m : Meaning V) (admits : V → Type 0) (laws : Lawful m admits) (u k : ℕ) (r : ℕ → Cell V) where

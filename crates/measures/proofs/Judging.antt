@@ -73,13 +73,13 @@ module _ {V : Type 0} (m : Meaning V) (admits : V → Type 0) (laws : Lawful m a
   flow_decided judge [] h = absurd h.0
   flow_decided judge (x ∷ f) h = judge.decides (letter_at ev x) (word ev f) (flow_spelled m n k limit ev rg u i (x ∷ f) h.0 h.1)
 
+  inside : (g : List Place) → admits (carried m (word ev g))
+  inside g = carried_admitted m admits laws m.start (word ev g) laws.start_admitted
+
   module _ (f : List Place) (fs : List (List Place)) (all : Exactly (Longest ev u i) (f ∷ fs)) where
     pub some_decided : Judges ◌||◌ m admits answer good → Decides (answer (join_over m ev f fs)) ((g : List Place) × Longest ev u i g × good (word ev g))
     some_decided judge = ((λ e. found (or_joined m admits laws (λ g. carried m (word ev g)) inside answer judge.joins (carried m (word ev f)) (inside f) fs e)), λ p. joined_or m admits laws (λ g. carried m (word ev g)) inside answer judge.joins (carried m (word ev f)) (inside f) fs (chosen p))
       where
-        inside : (g : List Place) → admits (carried m (word ev g))
-        inside g = carried_admitted m admits laws m.start (word ev g) laws.start_admitted
-
         found : (answer (carried m (word ev f)) ≡ true) ⊎ ((g : List Place) × Among g fs × (answer (carried m (word ev g)) ≡ true)) → (g : List Place) × Longest ev u i g × good (word ev g)
         found (inl e) = (f, all.sound f (inl refl), (flow_decided judge f (all.sound f (inl refl))).0 e)
         found (inr (g, a, e)) = (g, all.sound g (inr a), (flow_decided judge g (all.sound g (inr a))).0 e)
@@ -100,9 +100,6 @@ module _ {V : Type 0} (m : Meaning V) (admits : V → Type 0) (laws : Lawful m a
           ((flow_decided judge f (all.sound f (inl refl))).1 (p f (all.sound f (inl refl))))
           (λ g a. (flow_decided judge g (all.sound g (inr a))).1 (p g (all.sound g (inr a))))),
     )
-      where
-        inside : (g : List Place) → admits (carried m (word ev g))
-        inside g = carried_admitted m admits laws m.start (word ev g) laws.start_admitted
 
 pub marks_judged : {V : Type 0} (m : Meaning V) (admits : V → Type 0) → Lawful m admits → (some all : V → Bool) (good : Word → Type 0)
     → Judges ◌||◌ m admits some good → Judges ◌&&◌ m admits all good → MarksJudged m some all good

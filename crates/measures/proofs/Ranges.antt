@@ -1,5 +1,5 @@
 -- The span carried along a word, and what it shows.
-use Rattle.std.proofs.Common.{◌≡◌, ℕ, ◌+◌, ◌≤◌, min, Bool, cond, ◌&&◌, ◌||◌, leb, [], ◌∷◌, length, ap, ◌∙◌, arith}
+use Rattle.std.proofs.Common.{◌≡◌, ℕ, ◌+◌, ◌≤◌, min, Bool, ◌&&◌, ◌||◌, leb, [], ◌∷◌, length, ap, ◌∙◌, arith}
 use Rattle.std.proofs.lemmas.Bool.{lt-ltb, le-leb, leb-true}
 use Rattle.std.proofs.lemmas.Bool.Decides.{nat_tests, Decides-at}
 use Rattle.measures.specs.declared.spans.Ends.{Ends}
@@ -11,9 +11,7 @@ use Rattle.measures.specs.Spans.{ends, longer, span}
 carried_ends : (n k : ℕ) (w : Word) → k ≤ 65535 → Labels n w → carried_from (span n) (ends k k) w ≡ ends (min (k + length w) 65535) (min (k + length w) 65535)
 carried_ends n k [] h ls = ap (λ (j : ℕ). ends j j) (omega arith)
 carried_ends n k (l ∷ w) h ls =
-    ap (λ (t : Bool). carried_from (span n) (cond t (ends (longer k) (longer k)) (ends k k)) w) (lt-ltb l n ls.0)
-    ∙ carried_ends n (longer k) w (omega arith) ls.1
-    ∙ ap (λ (j : ℕ). ends j j) (omega arith)
+    rw (lt-ltb l n ls.0) (carried_ends n (longer k) w (omega arith) ls.1 ∙ ap (λ (j : ℕ). ends j j) (omega arith))
 
 -- Either end of a carried span is within the limit exactly when the word is, since the cap lies above the limit.
 pub shows_within : (n limit : ℕ) → limit ≤ 65534 → (op : Bool → Bool → Bool) (end : Ends → ℕ) → ((k : ℕ) → end (ends k k) ≡ k) → {admits : Ends → Type 0}

@@ -1,8 +1,8 @@
 -- A pattern recognizes the words that its bytes accept.
-use Rattle.std.proofs.Common.{◌≡◌, ℕ, ◌+◌, ◌-◌, ◌*◌, ◌^◌, ◌<◌, ◌≤◌, Bool, ◌⊎◌, ◌↔◌, List, [], ◌∷◌, map, length, get_or, replicate, sym, refl, ap, ◌∙◌, subst, inl, inr, ⊎_elim}
+use Rattle.std.proofs.Common.{◌≡◌, ℕ, ◌+◌, ◌*◌, ◌^◌, ◌<◌, ◌≤◌, Bool, ◌⊎◌, ◌↔◌, List, [], ◌∷◌, map, get_or, sym, ap, ◌∙◌, subst, inl, inr, ⊎_elim, arith}
 use lib.Bits.{bit_or}
-use Rattle.std.proofs.lemmas.List.{get_or_append_left, get_or-append_right, get_or-replicate, get_or_past, length-replicate}
-use Rattle.std.proofs.lemmas.Bool.{cases_lt}
+use Rattle.std.proofs.Math.Path.{fun_ext}
+use Rattle.std.proofs.lemmas.Grind.{common_steps}
 use Rattle.std.proofs.lemmas.Bool.Decides.{same_from_decides, Decides-eqb}
 use Rattle.std.specs.List.{AllByRecursion}
 use Rattle.bitset.specs.Sets.{bit, Member, has, meets, within}
@@ -14,30 +14,21 @@ use Rattle.measures.specs.Formats.{labels_in, table_in, padded, PatternOf}
 use Rattle.measures.specs.Acceptance.{state_after, accepts, Any, Recognizes}
 use Rattle.measures.specs.Accepting.{carried_one, only_member, meets_one, within_one}
 
-zeros : (n i : ℕ) → ◌≡◌ {A = ℕ} (get_or (replicate n 0) i 0) 0
-zeros n i = elim (cases_lt i n) [ inl h ↦ get_or-replicate n i 0 0 h | inr h ↦ get_or_past (replicate n 0) i 0 (simp length-replicate h) ]
-
 -- the zeros after a table change no entry
 padded_at : (n : ℕ) (t : List ℕ) (i : ℕ) → get_or (padded n t) i 0 ≡ get_or t i 0
-padded_at n t i =
-    elim (cases_lt i (length t)) [
-      | inl h ↦ get_or_append_left t (replicate (n - length t) 0) 0 i h
-      | inr h ↦ get_or-append_right t (replicate (n - length t) 0) (length t) i 0 refl h ∙ zeros (n - length t) (i - length t) ∙ sym (get_or_past t i 0 h)
-    ]
+padded_at n t i = grind (arith, common_steps)
 
-leads_same : (d e : Letter → ℕ → ℕ) → ((l q : ℕ) → d l q ≡ e l q) → (q : ℕ) (w : Word) → leads d q w ≡ leads e q w
-leads_same d e same q [] = refl
-leads_same d e same q (l ∷ w) = ap (λ (p : ℕ). leads d p w) (same l q) ∙ leads_same d e same (e l q) w
+pub padded_complete : (n bound count : ℕ) (t table : List ℕ) → table ≡ padded n t → ((k : ℕ) → k < count → get_or t k 0 < bound) → (k : ℕ) → k < count → get_or table k 0 < bound
+padded_complete n bound count t table is below k h = rw (is, padded_at n t k) (below k h)
 
 module _ (b : List ℕ) (states labels start finals : ℕ) (table : List ℕ) (parts : PatternOf b states labels start finals table) (counted : (0 < labels) × (labels ≤ 64)) (begins : start < states) (complete : (k : ℕ) → k < states * labels → get_or table k 0 < states) where
   state_read : (w : Word) → leads (next labels table) start w ≡ state_after b w
   state_read w =
-      leads_same (next labels table) (next (labels_in b) (table_in b))
-      (λ l q.
+      ap (λ (d : Letter → ℕ → ℕ). leads d start w)
+      (fun_ext (λ l. fun_ext (λ q.
       ap (λ (t : List ℕ). get_or t (q * labels + l) 0) parts.table_is
       ∙ padded_at 4096 (table_in b) (q * labels + l)
-      ∙ ap (λ (a : ℕ). get_or (table_in b) (q * a + l) 0) parts.labels_are)
-      start w
+      ∙ ap (λ (a : ℕ). get_or (table_in b) (q * a + l) 0) parts.labels_are)))
       ∙ ap (λ (q : ℕ). leads (next (labels_in b) (table_in b)) q w) parts.start_is
 
   here : (w : Word) → Labels (labels_in b) w → Labels labels w

@@ -1,23 +1,16 @@
 -- Joins over lists of flows that have the last mark in front.
 use Rattle.std.proofs.Common.{◌≡◌, List, [], ◌∷◌, ◌++◌, map, reverse, Some, None, Option, sym, refl, ap, ◌∙◌}
 use mathlib.Core.List.{reverse-cons}
+use Rattle.std.specs.Option.{IfSome, option_map}
+use Rattle.std.proofs.lemmas.List.{map_push}
 use Rattle.history.specs.Counting.{Exactly}
 use Rattle.history.specs.Events.{Events}
 use Rattle.history.specs.Flows.{Place, letter_at, word}
 use Rattle.history.proofs.Lists.{exactly_same}
-use Rattle.measures.specs.Words.{Letter, Word}
+use Rattle.measures.specs.Words.{Letter}
 use Rattle.measures.specs.Measures.{Meaning, Lawful, Fits, carried, joined}
 use Rattle.measures.specs.Worths.{plus}
 use Rattle.measures.proofs.Carrying.{carried_push}
-
--- P of the value, if there is one
-abbrev pub IfAny : {V : Type 0} → (V → Type 0) → Option V → Type 0
-IfAny P None = Unit {0}
-IfAny P (Some x) = P x
-
-abbrev pub lift : {V : Type 0} → (V → V) → Option V → Option V
-lift f None = None
-lift f (Some x) = Some (f x)
 
 module _ {V : Type 0} (m : Meaning V) (ev : Events) where
   -- the measure carried along a flow that has its last mark in front
@@ -30,37 +23,33 @@ module _ {V : Type 0} (m : Meaning V) (ev : Events) where
   total [] = None
   total (f ∷ fs) = plus m (Some (carried_back f)) (total fs)
 
-  word_push : (f : List Place) (x : Place) → word ev (f ++ (x ∷ [])) ≡ word ev f ++ (letter_at ev x ∷ [])
-  word_push [] x = refl
-  word_push (y ∷ f) x = ap (λ (w : Word). letter_at ev y ∷ w) (word_push f x)
-
   pub carried_back_word : (f : List Place) → carried_back f ≡ carried m (word ev (reverse f))
   carried_back_word [] = refl
   carried_back_word (x ∷ f) =
       ap (λ (a : V). m.step a (letter_at ev x)) (carried_back_word f)
-      ∙ sym (ap (carried m) (ap (word ev) (reverse-cons x f) ∙ word_push (reverse f) x) ∙ carried_push m m.start (word ev (reverse f)) (letter_at ev x))
+      ∙ sym (ap (carried m) (ap (word ev) (reverse-cons x f) ∙ map_push (letter_at ev) (reverse f) x) ∙ carried_push m m.start (word ev (reverse f)) (letter_at ev x))
 
 module _ {V : Type 0} (m : Meaning V) (admits : V → Type 0) (laws : Lawful m admits) (ev : Events) where
-  plus_admitted : (x y : Option V) → IfAny admits x → IfAny admits y → IfAny admits (plus m x y)
+  plus_admitted : (x y : Option V) → IfSome x admits → IfSome y admits → IfSome (plus m x y) admits
   plus_admitted None y p q = q
   plus_admitted (Some x) None p q = p
   plus_admitted (Some x) (Some y) p q = laws.join_admitted x y p q
 
-  plus_assoc : (x y z : Option V) → IfAny admits x → IfAny admits y → IfAny admits z → plus m (plus m x y) z ≡ plus m x (plus m y z)
+  plus_assoc : (x y z : Option V) → IfSome x admits → IfSome y admits → IfSome z admits → plus m (plus m x y) z ≡ plus m x (plus m y z)
   plus_assoc None y z p q r = refl
   plus_assoc (Some x) None None p q r = refl
   plus_assoc (Some x) None (Some z) p q r = refl
   plus_assoc (Some x) (Some y) None p q r = refl
   plus_assoc (Some x) (Some y) (Some z) p q r = ap Some (laws.associates x y z p q r)
 
-  plus_comm : (x y : Option V) → IfAny admits x → IfAny admits y → plus m x y ≡ plus m y x
+  plus_comm : (x y : Option V) → IfSome x admits → IfSome y admits → plus m x y ≡ plus m y x
   plus_comm None None p q = refl
   plus_comm None (Some y) p q = refl
   plus_comm (Some x) None p q = refl
   plus_comm (Some x) (Some y) p q = ap Some (laws.commutes x y p q)
 
-  plus_step : (l : Letter) → Fits m l → (x y : Option V) → IfAny admits x → IfAny admits y
-      → lift (λ a. m.step a l) (plus m x y) ≡ plus m (lift (λ a. m.step a l) x) (lift (λ a. m.step a l) y)
+  plus_step : (l : Letter) → Fits m l → (x y : Option V) → IfSome x admits → IfSome y admits
+      → option_map (λ a. m.step a l) (plus m x y) ≡ plus m (option_map (λ a. m.step a l) x) (option_map (λ a. m.step a l) y)
   plus_step l h None y p q = refl
   plus_step l h (Some x) None p q = refl
   plus_step l h (Some x) (Some y) p q = ap Some (laws.distributes x y l p q h)
@@ -69,7 +58,7 @@ module _ {V : Type 0} (m : Meaning V) (admits : V → Type 0) (laws : Lawful m a
   carried_back_admitted [] = laws.start_admitted
   carried_back_admitted (x ∷ f) = laws.step_admitted (carried_back m ev f) (letter_at ev x) (carried_back_admitted f)
 
-  total_admitted : (fs : List (List Place)) → IfAny admits (total m ev fs)
+  total_admitted : (fs : List (List Place)) → IfSome (total m ev fs) admits
   total_admitted [] = tt
   total_admitted (f ∷ fs) = plus_admitted (Some (carried_back m ev f)) (total m ev fs) (carried_back_admitted f) (total_admitted fs)
 
@@ -80,7 +69,7 @@ module _ {V : Type 0} (m : Meaning V) (admits : V → Type 0) (laws : Lawful m a
       ∙ sym (plus_assoc (Some (carried_back m ev f)) (total m ev fs) (total m ev gs) (carried_back_admitted f) (total_admitted fs) (total_admitted gs))
 
   -- one more mark at the end of every flow
-  pub total_longer : (x : Place) → Fits m (letter_at ev x) → (fs : List (List Place)) → total m ev (map (λ f. x ∷ f) fs) ≡ lift (λ a. m.step a (letter_at ev x)) (total m ev fs)
+  pub total_longer : (x : Place) → Fits m (letter_at ev x) → (fs : List (List Place)) → total m ev (map (λ f. x ∷ f) fs) ≡ option_map (λ a. m.step a (letter_at ev x)) (total m ev fs)
   total_longer x h [] = refl
   total_longer x h (f ∷ fs) =
       ap (plus m (Some (carried_back m ev (x ∷ f)))) (total_longer x h fs)

@@ -1,6 +1,9 @@
 -- Each accepted mark's value is the join along the longest flows that end there.
-use Rattle.std.proofs.Common.{◌≡◌, ℕ, List, [], ◌∷◌, map, reverse, Some, sym, refl, ap, ◌∙◌, subst, ap₂}
-use Rattle.std.proofs.lemmas.List.{reverse-reverse}
+use Rattle.std.proofs.Common.{◌≡◌, ℕ, List, [], ◌∷◌, map, reverse, Some, sym, ap, ◌∙◌, subst, ap₂}
+use Rattle.std.proofs.Math.Path.{fun_ext}
+use Rattle.std.proofs.lemmas.Option.{none-some, same_Some}
+use Rattle.std.proofs.lemmas.List.{map-id, reverse-reverse}
+use Rattle.std.proofs.lemmas.Simd.{map-map}
 use Rattle.history.specs.Counting.{Exactly}
 use Rattle.history.specs.Events.{Events, mark}
 use Rattle.history.specs.Flows.{Place, Longest, word}
@@ -11,7 +14,6 @@ use Rattle.history.proofs.Flows.{flows_longest, longest_flows}
 use Rattle.history.proofs.Holds.{Holds}
 use Rattle.history.proofs.Marking.{rows_hold}
 use Rattle.history.proofs.OrderFree.{order_free}
-use Rattle.history.proofs.Posts.{some_none}
 use Rattle.history.proofs.RowOf.{Row}
 use Rattle.history.proofs.Runs.{sound_run}
 use Rattle.history.proofs.Sound.{Ranged}
@@ -25,30 +27,25 @@ use Rattle.measures.proofs.Worths.{worth_mark}
 module _ {V : Type 0} (m : Meaning V) (admits : V → Type 0) (laws : Lawful m admits) (ev : Events) where
   -- along flows with the last mark in front, and along these turned round
   back_words : (fs : List (List Place)) → map (carried_back m ev) fs ≡ map (λ f. carried m (word ev f)) (map reverse fs)
-  back_words [] = refl
-  back_words (f ∷ fs) = ap₂ (λ (a : V) (b : List V). a ∷ b) (carried_back_word m ev f) (back_words fs)
+  back_words fs = ap (λ (g : List Place → V). map g fs) (fun_ext (carried_back_word m ev)) ∙ sym (map-map (λ f. carried m (word ev f)) reverse fs)
 
   words_back : (fs : List (List Place)) → map (carried_back m ev) (map reverse fs) ≡ map (λ f. carried m (word ev f)) fs
-  words_back [] = refl
-  words_back (f ∷ fs) = ap₂ (λ (a : V) (b : List V). a ∷ b) (carried_back_word m ev (reverse f) ∙ ap (λ (g : List Place). carried m (word ev g)) (reverse-reverse f)) (words_back fs)
-
-  some_same : (x y : V) → Some x ≡ Some y → x ≡ y
-  some_same x y e = cc
+  words_back fs = back_words (map reverse fs) ∙ ap (map (λ f. carried m (word ev f))) (map-map reverse reverse fs ∙ ap (λ (g : List Place → List Place). map g fs) (fun_ext reverse-reverse) ∙ map-id fs)
 
   module _ (u i : ℕ) (x : V) where
     tally_flows : Tally m ev u i x → (f : List Place) × (fs : List (List Place)) × Exactly (Longest ev u i) (f ∷ fs) × (x ≡ join_over m ev f fs)
-    tally_flows ([], e, t) = absurd (some_none (sym t))
+    tally_flows ([], e, t) = absurd (none-some x t)
     tally_flows (f ∷ fs, e, t) = (
       reverse f,
       map reverse fs,
       flows_longest ev u i (f ∷ fs) e,
-      some_same _ _ (sym t ∙ total_joined m admits laws ev f fs)
+      same_Some _ _ (sym t ∙ total_joined m admits laws ev f fs)
           ∙ ap₂ (joined m) (carried_back_word m ev f) (back_words fs),
     )
 
     tally_any : Tally m ev u i x → (f : List Place) (fs : List (List Place)) → Exactly (Longest ev u i) (f ∷ fs) → x ≡ join_over m ev f fs
     tally_any (gs, e, t) f fs h =
-        some_same _ _
+        same_Some _ _
         (sym t
         ∙ exactly_total m admits laws ev gs (map reverse (f ∷ fs)) e (longest_flows ev u i (f ∷ fs) h)
         ∙ total_joined m admits laws ev (reverse f) (map reverse fs))

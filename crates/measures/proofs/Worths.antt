@@ -1,5 +1,6 @@
 -- A mark is worth the join over the flows that end at it.
 use Rattle.std.proofs.Common.{◌≡◌, ℕ, List, [], ◌∷◌, map, Some, None, Option, unwrap_or, sym, refl, ap, ◌∙◌, subst, ap₂, inl, ⊎_elim}
+use Rattle.std.specs.Option.{option_map}
 use Rattle.std.proofs.lemmas.Bool.{ltb-true}
 use Rattle.history.specs.Counting.{Among}
 use Rattle.history.specs.Events.{Events, mark}
@@ -15,14 +16,14 @@ use Rattle.history.proofs.Sound.{Ranged}
 use Rattle.measures.specs.Words.{Letter, letter_of}
 use Rattle.measures.specs.Measures.{Meaning, Lawful, Fits}
 use Rattle.measures.specs.Worths.{plus, gathered, worth, sized}
-use Rattle.measures.proofs.Totals.{lift, total, carried_back, total_longer}
+use Rattle.measures.proofs.Totals.{total, carried_back, total_longer}
 use Rattle.measures.proofs.Gathering.{Tally, Gathered, gathered_all}
 
 plus_some : {V : Type 0} (m : Meaning V) (x : V) (t : Option V) → (y : V) × (plus m (Some x) t ≡ Some y)
 plus_some m x None = (x, refl)
 plus_some m x (Some y) = (m.join x y, refl)
 
-stepped : {V : Type 0} (m : Meaning V) (c l : Letter) → c ≡ l → (o t : Option V) → o ≡ t → (y : V) → t ≡ Some y → lift (λ a. m.step a c) t ≡ Some (m.step (unwrap_or o m.start) l)
+stepped : {V : Type 0} (m : Meaning V) (c l : Letter) → c ≡ l → (o t : Option V) → o ≡ t → (y : V) → t ≡ Some y → option_map (λ a. m.step a c) t ≡ Some (m.step (unwrap_or o m.start) l)
 stepped m c l d o t s y x = rw (s, x, d) refl
 
 -- the letter of an accepted mark is the measure's

@@ -1,9 +1,9 @@
 -- Automata over sets of states: the laws, the states that words reach, and the accepted words.
-use Rattle.std.specs.Prelude.{◌≡◌, ℕ, ◌+◌, ◌*◌, ◌^◌, ◌<◌, ◌≤◌, Bool, true, false, cond, ◌&&◌, ◌||◌, ◌↔◌, List, [], ◌∷◌, Decides, bit_or, nat_lt, slice_index, refl}
-use Rattle.std.proofs.Common.{ap, sym, subst, ◌∙◌, inl, inr, ⊎_elim, arith, pow_pos}
+use Rattle.std.specs.Prelude.{◌≡◌, ℕ, ◌+◌, ◌*◌, ◌^◌, ◌<◌, ◌≤◌, Bool, ◌&&◌, ◌||◌, ◌↔◌, List, [], ◌∷◌, Decides, bit_or, nat_lt, slice_index, refl}
+use Rattle.std.proofs.Common.{ap, sym, subst, inl, inr, ⊎_elim, arith, pow_pos}
 use Rattle.std.proofs.Math.Pow.{pow-lt}
 use Rattle.std.proofs.lemmas.Nat.{mul-add-lt, or_comm, or_lt}
-use Rattle.std.proofs.lemmas.Bool.{lt-ltb, le-ltb, ltb-true}
+use Rattle.std.proofs.lemmas.Bool.{cond_both, cond-false, lt-ltb, le-ltb, ltb-true}
 use Rattle.std.proofs.lemmas.Bool.Decides.{same_from_decides, Decides-at, Decides-like, Decides-or, Decides-and}
 use Rattle.bitset.specs.Sets.{Member, meets, within}
 use Rattle.bitset.proofs.Bits.{bit_pow, bit_pow_self, or_assoc, or_pos}
@@ -11,7 +11,7 @@ use Rattle.bitset.proofs.Members.{member_or, or_member_left, or_member_right, me
 use Rattle.measures.specs.Words.{Word, Labels}
 use Rattle.measures.specs.Measures.{Lawful, carried_from, carried}
 use Rattle.measures.specs.Judges.{Judges}
-use Rattle.measures.specs.Automata.{next, leads, image, state_sets}
+use Rattle.measures.specs.Automata.{next, leads, state_sets}
 use Rattle.measures.specs.Images.{image_or, image_pow, image_below, image_pos}
 
 -- the only member of 2 ^ q is q
@@ -49,14 +49,6 @@ within_one f q =
     (λ m k i. subst (λ (j : ℕ). Member j f) (bit_pow q k i) m)
     (within_members (2 ^ q) f)
 
-by_label : (t : Bool) (x a b y z : ℕ) → x ≡ bit_or y z → cond t x (bit_or a b) ≡ bit_or (cond t y a) (cond t z b)
-by_label true x a b y z e = e
-by_label false x a b y z e = refl
-
-admitted_by_label : (t : Bool) (x a n : ℕ) → (t ≡ true → (0 < x) × (x < n)) → (0 < a) × (a < n) → (0 < cond t x a) × (cond t x a < n)
-admitted_by_label true x a n h ha = h refl
-admitted_by_label false x a n h ha = ha
-
 module _ (states labels start : ℕ) (table : List ℕ) (counted : (0 < labels) × (labels ≤ 64)) (begins : start < states) (complete : (k : ℕ) → k < states * labels → slice_index table k < states) where
   next_below : (l q : ℕ) → l < labels → q < states → next labels table l q < states
   next_below l q hl hq = complete (q * labels + l) (omega (arith, mul-add-lt q labels l states hq hl))
@@ -65,14 +57,14 @@ module _ (states labels start : ℕ) (table : List ℕ) (counted : (0 < labels) 
   state_sets_lawful = record {
     counted = counted;
     start_admitted = (pow_pos start, pow-lt begins);
-    step_admitted = λ a l ha. admitted_by_label (nat_lt l labels) _ a (2 ^ states)
+    step_admitted = λ a l ha. cond_both (nat_lt l labels) _ a (λ set. (0 < set) × (set < 2 ^ states))
         (λ t. (image_pos (next labels table l) states a ha.0 ha.1, image_below (next labels table l) states a states (λ q h. next_below l q (ltb-true l labels t) h)))
-        ha;
+        (λ _. ha);
     join_admitted = λ a b ha hb. (or_pos a b ha.0, or_lt states a b ha.1 hb.1);
-    unlabelled = λ a l h. ap (λ (t : Bool). cond t (image (next labels table l) states a) a) (le-ltb l labels (omega arith));
+    unlabelled = λ a l h. cond-false (nat_lt l labels) _ a (le-ltb l labels (omega arith));
     commutes = λ a b _ _. or_comm a b;
     associates = λ a b c _ _ _. or_assoc a b c;
-    distributes = λ a b l _ _ _. by_label (nat_lt l labels) _ a b _ _ (image_or (next labels table l) states a b);
+    distributes = λ a b l _ _ h. rw (lt-ltb l labels h) (image_or (next labels table l) states a b);
   }
 
   leads_below : (q : ℕ) (w : Word) → q < states → Labels labels w → leads (next labels table) q w < states
@@ -82,9 +74,7 @@ module _ (states labels start : ℕ) (table : List ℕ) (counted : (0 < labels) 
   carried_pow : (q : ℕ) (w : Word) → q < states → Labels labels w → carried_from (state_sets states labels start table) (2 ^ q) w ≡ 2 ^ leads (next labels table) q w
   carried_pow q [] hq ls = refl
   carried_pow q (l ∷ w) hq ls =
-      ap (λ (t : Bool). carried_from (state_sets states labels start table) (cond t (image (next labels table l) states (2 ^ q)) (2 ^ q)) w) (lt-ltb l labels ls.0)
-      ∙ ap (λ (set : ℕ). carried_from (state_sets states labels start table) set w) (image_pow (next labels table l) states q hq)
-      ∙ carried_pow (next labels table l q) w (next_below l q ls.0 hq) ls.1
+      rw (lt-ltb l labels ls.0, image_pow (next labels table l) states q hq) (carried_pow (next labels table l q) w (next_below l q ls.0 hq) ls.1)
 
   pub carried_one : (w : Word) → Labels labels w → carried (state_sets states labels start table) w ≡ 2 ^ leads (next labels table) start w
   carried_one w ls = carried_pow start w begins ls

@@ -1,14 +1,12 @@
 -- The bytes of patterns and of relabellings, and what is wrong with them.
-use Rattle.std.specs.Prelude.{◌≡◌, ℕ, suc, ◌+◌, ◌-◌, ◌*◌, ◌^◌, cond, ◌&&◌, List, [], ◌∷◌, ◌++◌, length, take, drop, replicate, Some, None, Option, ◌==◌, nat_le, nat_lt, slice_index}
-use Rattle.std.specs.Option.{option_map}
+use Rattle.std.specs.Prelude.{◌≡◌, ℕ, ◌+◌, ◌-◌, ◌*◌, ◌^◌, ◌&&◌, List, ◌++◌, length, take, drop, replicate, Some, None, Option, ◌==◌, nat_le, nat_lt, position, slice_index}
 use Rattle.measures.specs.declared.refusals.Fault.{Fault}
 use Rattle.measures.specs.declared.refusals.Refusal.TheVariants.{PatternTooShort, NotAPattern, StateCount, LabelCount, StartState, FinalStates, TableTooShort, EntryTooLarge, NotARelabelling}
 use Rattle.measures.specs.Refusals.{fault, ask, counted}
 
 -- the place of the first entry that is not below the bound
 abbrev pub first_over : ℕ → List ℕ → Option ℕ
-first_over bound [] = None
-first_over bound (x ∷ xs) = cond (nat_lt x bound) (option_map suc (first_over bound xs)) (Some 0)
+first_over bound xs = position (λ x. nat_le bound x) xs
 
 abbrev pub over_fault : ℕ → Option ℕ → Option Fault
 over_fault from None = None

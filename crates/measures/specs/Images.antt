@@ -1,18 +1,18 @@
 -- Images of sets: their members, and what they make of unions and of single numbers.
-use Rattle.std.specs.Prelude.{◌≡◌, ℕ, zero, suc, ◌^◌, ◌<◌, Bool, cond, bit_or}
+use Rattle.std.specs.Prelude.{◌≡◌, ℕ, zero, suc, ◌^◌, ◌<◌, bit_or}
 use Rattle.std.proofs.Common.{ap, sym, subst, ◌∙◌, inl, inr, ⊎_elim, arith}
-use Rattle.std.proofs.lemmas.Bool.{cases_lt, eq-eqb, ne_eqb, ltb-true, lt-ltb}
-use Rattle.bitset.specs.Sets.{bit, Member}
+use Rattle.std.proofs.lemmas.Bool.{cases_lt, cond-true, cond-false, eq-eqb, ne_eqb, ltb-true, lt-ltb}
+use Rattle.bitset.specs.Sets.{bit, Member, has}
 use Rattle.bitset.proofs.Bits.{bit_zero, bit_pow, bit_pow_self}
 use Rattle.bitset.proofs.Members.{cases_bit, same_members, member_or, or_member_left, or_member_right, some_member, member_pos, below_members}
 use Rattle.measures.specs.Automata.{image, Image}
 
 module _ (f : ℕ → ℕ) where
   image_taken : (n set : ℕ) → Member n set → image f (suc n) set ≡ bit_or (image f n set) (2 ^ f n)
-  image_taken n set m = ap (λ (t : Bool). cond t (bit_or (image f n set) (2 ^ f n)) (image f n set)) (eq-eqb (bit set n) 1 m)
+  image_taken n set m = cond-true (has set n) _ _ (eq-eqb (bit set n) 1 m)
 
   image_passed : (n set : ℕ) → bit set n ≡ 0 → image f (suc n) set ≡ image f n set
-  image_passed n set z = ap (λ (t : Bool). cond t (bit_or (image f n set) (2 ^ f n)) (image f n set)) (ne_eqb (bit set n) 1 (λ e. omega arith))
+  image_passed n set z = cond-false (has set n) _ _ (ne_eqb (bit set n) 1 (λ e. omega arith))
 
   image_keeps : (n set q : ℕ) → Member q (image f n set) → Member q (image f (suc n) set)
   image_keeps n set q m =
@@ -46,8 +46,8 @@ module _ (f : ℕ → ℕ) where
   image_from (suc n) set q m =
       image_from_one_more n set q (λ k. let r = image_from n set q k in (r.0, omega (arith, r.1), r.2, r.3)) m
 
-  pub image_is : (n set : ℕ) → Image f n set (image f n set)
-  image_is n set = record { into = image_into n set; from = image_from n set }
+  pub image_is : (n set r : ℕ) → r ≡ image f n set → Image f n set r
+  image_is n set r e = subst (Image f n set) (sym e) (record { into = image_into n set; from = image_from n set })
 
   pub image_or : (n a b : ℕ) → image f n (bit_or a b) ≡ bit_or (image f n a) (image f n b)
   image_or n a b =

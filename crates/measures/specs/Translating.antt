@@ -1,7 +1,7 @@
 -- A relabelled measure makes of a word what the inner one makes of its translation.
-use Rattle.std.specs.Prelude.{◌≡◌, ℕ, ◌<◌, ◌≤◌, Bool, cond, List, [], ◌∷◌, nat_lt, slice_index, refl}
-use Rattle.std.proofs.Common.{ap, ap₂, sym, ◌∙◌, arith}
-use Rattle.std.proofs.lemmas.Bool.{lt-ltb, le-ltb, ltb-true, cond-true, cond-false, cond_both}
+use Rattle.std.specs.Prelude.{◌≡◌, ℕ, ◌<◌, ◌≤◌, Bool, List, [], ◌∷◌, nat_lt, slice_index, refl}
+use Rattle.std.proofs.Common.{ap, arith}
+use Rattle.std.proofs.lemmas.Bool.{lt-ltb, le-ltb, ltb-true, cond-false, cond_both}
 use Rattle.std.proofs.lemmas.Bool.Decides.{Decides-at}
 use Rattle.measures.specs.Words.{Letter, Word, Labels}
 use Rattle.measures.specs.Measures.{Meaning, Lawful, carried_from}
@@ -29,17 +29,13 @@ module _ {V : Type 0} (entries : List ℕ) (count : ℕ) (m : Meaning V) where
     associates = laws.associates;
     distributes = λ a b l ha hb h.
         let below = inner_label_below entries m.labels laws.counted.0 l in
-        let here = lt-ltb l count h in
-        cond-true (nat_lt l count) _ (m.join a b) here
-        ∙ laws.distributes a b (translated_label entries m.labels l) ha hb below
-        ∙ sym (ap₂ m.join (cond-true (nat_lt l count) _ a here) (cond-true (nat_lt l count) _ b here));
+        rw (lt-ltb l count h) (laws.distributes a b (translated_label entries m.labels l) ha hb below);
   }
 
   carried_translated : (v : V) (w : Word) → Labels count w → carried_from (relabelled entries count m) v w ≡ carried_from m v (translated entries m.labels w)
   carried_translated v [] ls = refl
   carried_translated v (l ∷ w) ls =
-      ap (λ (t : Bool). carried_from (relabelled entries count m) (cond t (m.step v (translated_label entries m.labels l)) v) w) (lt-ltb l count ls.0)
-      ∙ carried_translated (m.step v (translated_label entries m.labels l)) w ls.1
+      rw (lt-ltb l count ls.0) (carried_translated (m.step v (translated_label entries m.labels l)) w ls.1)
 
   -- an answer that the inner judge shows is one that the relabelled judge shows of translated words
   pub translated_judges : 0 < m.labels → {op : Bool → Bool → Bool} {admits : V → Type 0} {answer : V → Bool} {good : Word → Type 0}

@@ -13,6 +13,7 @@ pub mod merging;
 pub mod patterns;
 pub mod refusals;
 pub mod relabellings;
+mod sizes;
 pub mod spans;
 mod tables;
 
@@ -53,6 +54,7 @@ pub trait Measure {
 // The measure carried along a word of labels. It goes through joins (`carries`), and in every run of a board the value told at each
 // accepted mark is the join of what it makes of the words of the longest flows that end there, each taken once, whatever the order of the
 // calls (`runs`).
+#[tactic(auto, using(crate::proofs::Carrying::carried_more))]
 pub fn carry<M: Measure>(m: &M, word: &[u8]) -> M::Value
     ensures value { result ≡ carried (M.meaning m.now) word.now }
     ensures carries { Carries (M.meaning m.now) (M.admits m.now) }
@@ -60,14 +62,7 @@ pub fn carry<M: Measure>(m: &M, word: &[u8]) -> M::Value
 {
     let mut v = m.start();
     for l in word {
-        v = stepped(m, v, *l);
+        v = m.step(v, *l);
     }
     v
-}
-
-// The value after one more label.
-fn stepped<M: Measure>(m: &M, v: M::Value, l: u8) -> M::Value
-    ensures { result ≡ (M.meaning m.now).step v l }
-{
-    m.step(v, l)
 }

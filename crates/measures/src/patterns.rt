@@ -6,62 +6,54 @@ ghost use Rattle.measures.specs.Accepting.{state_sets_lawful};
 
 use super::Measure;
 use super::judges::Judge;
+use super::sizes::Count;
 use bitset::{insert, intersects, is_subset, union};
 
 mod images;
 mod readers;
 
-use images::image_under;
-
 // What stands before the table: the numbers of states and labels, the start state and the set of final states.
 #[derive(Clone, Copy)]
 struct Head {
-    states: u8,
-    labels: u8,
+    states: Count,
+    labels: Count,
     start: u8,
     finals: u64,
-    ghost states_counted: { (0 < states) × (states ≤ 64) },
-    ghost labels_counted: { (0 < labels) × (labels ≤ 64) },
-    ghost start_state: { start < states },
-    ghost final_states: { finals < 2 ^ states },
+    ghost start_state: { start < states.number },
+    ghost final_states: { finals < 2 ^ states.number },
 }
 
 // A pattern, always complete: the table has a row for each state, with a next state for each label; what lies past it is 0.
+// Its memory is fixed, with room for 64 rows of 64, since nothing here allocates and a pattern owns its table.
 #[derive(Clone, Copy)]
 pub struct Pattern {
     head: Head,
     table: [u8; 4096],
-    ghost whole: { head.states * head.labels ≤ 4096 },
-    ghost complete: { (k : ℕ) → k < head.states * head.labels → slice_index table k < head.states },
+    ghost whole: { head.states.number * head.labels.number ≤ 4096 },
+    ghost complete: { (k : ℕ) → k < head.states.number * head.labels.number → slice_index table k < head.states.number },
 }
 
 impl Head {
-    // Whether some state of the set is final.
-    fn some_final(&self, set: u64) -> bool
-        ensures { result ≡ meets set self.now.finals }
+    // The number of entries of the table.
+    fn entries(&self) -> usize
+        ensures value { result ≡ self.now.states.number * self.now.labels.number }
+        ensures few { result ≤ 4096 }
     {
-        intersects(set, self.finals)
-    }
-
-    // Whether each state of the set is final.
-    fn all_final(&self, set: u64) -> bool
-        ensures { result ≡ within set self.now.finals }
-    {
-        is_subset(set, self.finals)
+        self.states.number as usize * self.labels.number as usize
     }
 }
 
 impl Measure for Pattern {
     type Value = u64;
 
-    ghost meaning = { λ m. state_sets m.head.states m.head.labels m.head.start m.table };
+    ghost meaning = { λ m. state_sets m.head.states.number m.head.labels.number m.head.start m.table };
 
-    ghost admits = { λ m set. (0 < set) × (set < 2 ^ m.head.states) };
+    ghost admits = { λ m set. (0 < set) × (set < 2 ^ m.head.states.number) };
 
-    ghost lawful = { λ m. state_sets_lawful m.head.states m.head.labels m.head.start m.table m.head.labels_counted m.head.start_state m.complete };
+    ghost lawful = { λ m. state_sets_lawful m.head.states.number m.head.labels.number m.head.start m.table m.head.labels.counted m.head.start_state m.complete };
 
     fn labels(&self) -> u8 {
-        self.head.labels
+        self.head.labels.number
     }
 
     fn start(&self) -> u64 {
@@ -69,8 +61,8 @@ impl Measure for Pattern {
     }
 
     fn step(&self, v: u64, l: u8) -> u64 {
-        if l < self.head.labels {
-            image_under(&self.table, self.head.states, self.head.labels, v, l)
+        if l < self.head.labels.number {
+            self.image(v, l)
         } else {
             v
         }
@@ -82,17 +74,17 @@ impl Measure for Pattern {
 }
 
 impl Judge for Pattern {
-    ghost good = { λ m w. Member (leads (next m.head.labels m.table) m.head.start w) m.head.finals };
+    ghost good = { λ m w. Member (leads (next m.head.labels.number m.table) m.head.start w) m.head.finals };
 
     ghost some_of = { λ m set. meets set m.head.finals };
 
     ghost all_of = { λ m set. within set m.head.finals };
 
     fn some(&self, v: u64) -> bool {
-        self.head.some_final(v)
+        intersects(v, self.head.finals)
     }
 
     fn all(&self, v: u64) -> bool {
-        self.head.all_final(v)
+        is_subset(v, self.head.finals)
     }
 }

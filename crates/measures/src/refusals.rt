@@ -1,6 +1,6 @@
 // Why a pattern, a relabelling or a measure is refused.
 ghost use Rattle.std.specs.Prelude.{◌≡◌};
-ghost use Rattle.measures.specs.Refusals.{number, fault, counted};
+ghost use Rattle.measures.specs.Refusals.{number, fault};
 
 use thiserror::Error;
 
@@ -47,16 +47,10 @@ pub struct Fault {
 }
 
 impl Fault {
+    // The refusal, met at that byte.
     pub(crate) fn at(refusal: Refusal, place: usize) -> Fault
         ensures { result ≡ fault refusal place }
     {
         Fault { refusal, place }
     }
-}
-
-// Whether a number of states or of labels is from 1 to 64.
-pub(crate) fn is_counted(n: u8) -> bool
-    ensures { result ≡ counted n }
-{
-    1 <= n && n <= 64
 }

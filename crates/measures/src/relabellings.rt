@@ -6,15 +6,15 @@ ghost use Rattle.measures.specs.Translating.{relabelled_lawful};
 
 use super::Measure;
 use super::judges::Judge;
-use super::refusals::{Fault, Refusal, is_counted};
-use super::tables::{read_table, with_zeros};
+use super::refusals::{Fault, Refusal};
+use super::sizes::Count;
+use super::tables::{Rest, with_zeros};
 
-// The inner label of each label; the first `count` entries are used.
+// The inner label of each label; the first `count` entries are used. Its memory is fixed, since nothing here allocates.
 #[derive(Clone, Copy)]
 struct LabelTable {
     entries: [u8; 64],
-    count: u8,
-    ghost counted: { (0 < count) × (count ≤ 64) },
+    count: Count,
 }
 
 // An inner measure under other labels; over a judge it is a judge, of translated words.
@@ -24,46 +24,39 @@ pub struct Relabelling<M: Measure> {
     inner: M,
 }
 
-// Whether the byte `at` of the input is there, and begins a relabelling.
-fn begins_at(input: &[u8], at: usize) -> bool
-    ensures { result ≡ (nat_lt at (length input.now) && slice_index input.now at == 0x30) }
-{
-    at < input.len() && input[at] == 0x30
-}
-
 impl LabelTable {
     // The entry of l, or 0 where that is none of the n inner labels.
     fn inner_label(&self, l: u8, n: u8) -> u8
-        requires { l < self.now.count }
+        requires { l < self.now.count.number }
         ensures { result ≡ translated_label self.now.entries n l }
     {
         let entry = self.entries[l as usize];
         if entry < n { entry } else { 0 }
     }
 
-    // The label count of the table whose bytes begin at the byte `at` of the input.
-    fn read_count(input: &[u8], at: usize) -> Result<u8, Fault>
-        ensures { MatchResult result (λ n. (count_fault input.now at ≡ None) × (n ≡ count_in input.now at) × ((0 < n) × (n ≤ 64)) × (at + 2 ≤ length input.now)) (λ f. count_fault input.now at ≡ Some f) }
+    // The label count of the table at the front of the rest.
+    fn read_count(rest: Rest<'_>) -> Result<Count, Fault>
+        ensures { MatchResult result (λ n. (count_fault rest.entry.input.now rest.entry.place ≡ None) × (n.number ≡ count_in rest.entry.input.now rest.entry.place) × (rest.entry.place + 2 ≤ length rest.entry.input.now)) (λ f. count_fault rest.entry.input.now rest.entry.place ≡ Some f) }
     {
-        if !begins_at(input, at) {
-            return Err(Fault::at(Refusal::NotARelabelling, at));
+        match rest.bytes() {
+            Some([0x30]) => Err(Fault::at(Refusal::TableTooShort, rest.input.len())),
+            Some([0x30, count, ..]) => {
+                Count::new(*count).ok_or(Fault::at(Refusal::LabelCount, rest.place + 1))
+            }
+            _ => Err(Fault::at(Refusal::NotARelabelling, rest.place)),
         }
-        if input.len() - at < 2 {
-            return Err(Fault::at(Refusal::TableTooShort, input.len()));
-        }
-        let count = input[at + 1];
-        if !is_counted(count) {
-            return Err(Fault::at(Refusal::LabelCount, at + 1));
-        }
-        Ok(count)
     }
 
-    // The table whose bytes begin at the byte `at` of the input.
-    fn read(input: &[u8], at: usize, n: u8) -> Result<LabelTable, Fault>
-        ensures { MatchResult result (λ t. (relabelling_fault input.now at n ≡ None) × (t.count ≡ count_in input.now at) × (t.entries ≡ padded 64 (entries_in input.now at))) (λ f. relabelling_fault input.now at n ≡ Some f) }
+    // The table at the front of the rest.
+    fn read(rest: Rest<'_>, n: u8) -> Result<LabelTable, Fault>
+        ensures { MatchResult result (λ t. (relabelling_fault rest.entry.input.now rest.entry.place n ≡ None) × (t.count.number ≡ count_in rest.entry.input.now rest.entry.place) × (t.entries ≡ padded 64 (entries_in rest.entry.input.now rest.entry.place))) (λ f. relabelling_fault rest.entry.input.now rest.entry.place n ≡ Some f) }
     {
-        let count = Self::read_count(input, at)?;
-        let entries = read_table(input, at + 2, count as usize, n)?;
+        let count = Self::read_count(rest)?;
+        let after = Rest {
+            place: rest.place + 2,
+            ..rest
+        };
+        let entries = after.table(count.number as usize, n)?;
         Ok(LabelTable {
             entries: with_zeros(entries),
             count,
@@ -76,31 +69,32 @@ impl<M: Measure> Relabelling<M> {
     pub fn read(input: &[u8], at: usize, inner: M) -> Result<Relabelling<M>, Fault>
     where
         M: Drop,
-        ensures { MatchResult result (λ m. (relabelling_fault input.now at (M.meaning inner).labels ≡ None) × (m.table.count ≡ count_in input.now at) × (m.table.entries ≡ padded 64 (entries_in input.now at)) × (m.inner ≡ inner)) (λ f. relabelling_fault input.now at (M.meaning inner).labels ≡ Some f) }
+        ensures { MatchResult result (λ m. (relabelling_fault input.now at (M.meaning inner).labels ≡ None) × (m.table.count.number ≡ count_in input.now at) × (m.table.entries ≡ padded 64 (entries_in input.now at)) × (m.inner ≡ inner)) (λ f. relabelling_fault input.now at (M.meaning inner).labels ≡ Some f) }
     {
-        let table = LabelTable::read(input, at, inner.labels())?;
+        let rest = Rest { input, place: at };
+        let table = LabelTable::read(rest, inner.labels())?;
         Ok(Relabelling { table, inner })
     }
 
     // The number of bytes that the relabelling was read from.
     pub fn size(&self) -> usize
-        ensures { result ≡ 2 + self.now.table.count }
+        ensures { result ≡ 2 + self.now.table.count.number }
     {
-        2 + self.table.count as usize
+        2 + self.table.count.number as usize
     }
 }
 
 impl<M: Measure> Measure for Relabelling<M> {
     type Value = M::Value;
 
-    ghost meaning = { λ r. relabelled r.table.entries r.table.count (M.Measure.meaning r.inner) };
+    ghost meaning = { λ r. relabelled r.table.entries r.table.count.number (M.Measure.meaning r.inner) };
 
     ghost admits = { λ r v. M.Measure.admits r.inner v };
 
-    ghost lawful = { λ m. relabelled_lawful m.table.entries m.table.count (M.Measure.meaning m.inner) m.table.counted (M.Measure.lawful m.inner) };
+    ghost lawful = { λ m. relabelled_lawful m.table.entries m.table.count.number (M.Measure.meaning m.inner) m.table.count.counted (M.Measure.lawful m.inner) };
 
     fn labels(&self) -> u8 {
-        self.table.count
+        self.table.count.number
     }
 
     fn start(&self) -> M::Value {
@@ -108,7 +102,7 @@ impl<M: Measure> Measure for Relabelling<M> {
     }
 
     fn step(&self, v: M::Value, l: u8) -> M::Value {
-        if l < self.table.count {
+        if l < self.table.count.number {
             let to = self.table.inner_label(l, self.inner.labels());
             self.inner.step(v, to)
         } else {

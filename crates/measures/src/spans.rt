@@ -5,10 +5,11 @@ ghost use Rattle.measures.specs.Spans.{span, span_lawful};
 
 use super::Measure;
 use super::judges::Judge;
-use super::refusals::{Refusal, is_counted};
+use super::refusals::Refusal;
+use super::sizes::Count;
 
 // The numbers of marks of the shortest and of the longest flow, at most 65,535 each.
-#[derive(Clone, Copy, PartialEq, Eq, Debug)]
+#[derive(Clone, Copy, PartialEq, Eq, Default, Debug)]
 pub struct Ends {
     pub shortest: u16,
     pub longest: u16,
@@ -17,20 +18,17 @@ pub struct Ends {
 // A span with a limit: a word is good if it has at most `limit` labels. The limit lies below the cap, so the capped ends decide it.
 #[derive(Clone, Copy)]
 pub struct Span {
-    labels: u8,
+    labels: Count,
     limit: u16,
-    ghost counted: { (0 < labels) × (labels ≤ 64) },
     ghost limited: { limit ≤ 65534 },
 }
 
 impl Span {
     // Refuses a label count outside 1 to 64, and then a limit above 65,534.
     pub fn new(labels: u8, limit: u16) -> Result<Span, Refusal>
-        ensures { MatchResult result (λ m. (span_refusal labels limit ≡ None) × (m.labels ≡ labels) × (m.limit ≡ limit)) (λ e. span_refusal labels limit ≡ Some e) }
+        ensures { MatchResult result (λ m. (span_refusal labels limit ≡ None) × (m.labels.number ≡ labels) × (m.limit ≡ limit)) (λ e. span_refusal labels limit ≡ Some e) }
     {
-        if !is_counted(labels) {
-            return Err(Refusal::LabelCount);
-        }
+        let labels = Count::new(labels).ok_or(Refusal::LabelCount)?;
         if limit > 65534 {
             return Err(Refusal::SpanLimit);
         }
@@ -41,25 +39,22 @@ impl Span {
 impl Measure for Span {
     type Value = Ends;
 
-    ghost meaning = { λ m. span m.labels };
+    ghost meaning = { λ m. span m.labels.number };
 
     ghost admits = { λ _ v. (v.shortest ≤ v.longest) × (v.longest ≤ 65535) };
 
-    ghost lawful = { λ m. span_lawful m.labels m.counted };
+    ghost lawful = { λ m. span_lawful m.labels.number m.labels.counted };
 
     fn labels(&self) -> u8 {
-        self.labels
+        self.labels.number
     }
 
     fn start(&self) -> Ends {
-        Ends {
-            shortest: 0,
-            longest: 0,
-        }
+        Ends::default()
     }
 
     fn step(&self, v: Ends, l: u8) -> Ends {
-        if l < self.labels {
+        if l < self.labels.number {
             Ends {
                 shortest: v.shortest.saturating_add(1),
                 longest: v.longest.saturating_add(1),
@@ -84,17 +79,10 @@ impl Judge for Span {
     ghost all_of = { λ m v. nat_le v.longest m.limit };
 
     fn some(&self, v: Ends) -> bool {
-        is_within(v.shortest, self.limit)
+        v.shortest <= self.limit
     }
 
     fn all(&self, v: Ends) -> bool {
-        is_within(v.longest, self.limit)
+        v.longest <= self.limit
     }
-}
-
-// Whether a number of marks is within a limit.
-fn is_within(marks: u16, limit: u16) -> bool
-    ensures { result ≡ nat_le marks limit }
-{
-    marks <= limit
 }

@@ -1,32 +1,18 @@
-use Rattle.std.proofs.Common.{ℕ, ◌*◌, ◌≤◌, arith}
-use Rattle.std.proofs.lemmas.Nat.{mul-le}
-use Rattle.measures.proofs.Reading.{padded_complete, read_pattern}
-use Rattle.measures.proofs.Recognizing.{recognizes}
+use Rattle.std.proofs.Common.{◌*◌, arith}
+use Rattle.std.proofs.lemmas.Grind.{common_steps}
+use Rattle.measures.specs.Formats.{PatternOf}
+use Rattle.measures.proofs.Recognizing.{padded_complete, recognizes}
 use Rattle.measures.proofs.patterns.Pattern.read.Goals as goal
 
-at_most : (s a : ℕ) → s ≤ 64 → a ≤ 64 → s * a ≤ 4096
-at_most s a hs ha = mul-le s a 64 64 hs ha
-
-pub with_zeros-requires : goal.with_zeros-requires
-with_zeros-requires c =
+pub invariant_of-result-clause-complete : goal.invariant_of-result-clause-complete
+invariant_of-result-clause-complete c =
     let h = c.in_ok-head.head in
-    let few = at_most h.states h.labels h.states_counted.1 h.labels_counted.1 in
-    (omega arith, omega (arith, few, c.in_ok-table.ensures.2))
+    padded_complete 4096 h.states.number (h.states.number * h.labels.number) c.in_ok-table.table.now c.with_zeros.result c.with_zeros.ensures (λ k l. c.in_ok-table.ensures.3 k (omega arith))
 
-pub invariant_of-result : goal.invariant_of-result
-invariant_of-result c =
+pub returns-clause-recognizes : goal.returns-clause-recognizes
+returns-clause-recognizes c =
+    let b = c.args.input.now in
     let h = c.in_ok-head.head in
-    let read = c.in_ok-table.ensures in
-    let full = padded_complete 4096 h.states (h.states * h.labels) c.in_ok-table.table.now c.with_zeros.result c.with_zeros.ensures read.2 read.3 in
-    record { whole = at_most h.states h.labels h.states_counted.1 h.labels_counted.1; complete = full }
-
-pub returns : goal.returns
-returns c =
-    let h = c.in_ok-head.head in
-    let read = c.in_ok-table.ensures in
-    let full = padded_complete 4096 h.states (h.states * h.labels) c.in_ok-table.table.now c.with_zeros.result c.with_zeros.ensures read.2 read.3 in
-    let answer = read_pattern c.args.input.now h.states h.labels h.start h.finals c.in_ok-table.table.now c.with_zeros.result c.in_ok-head.ensures read.0 read.1 c.with_zeros.ensures in
-    record {
-      answer = answer;
-      recognizes = recognizes c.args.input.now h.states h.labels h.start h.finals c.with_zeros.result answer.1 h.labels_counted h.start_state full;
-    }
+    let parts : PatternOf b h.states.number h.labels.number h.start h.finals c.with_zeros.result = grind (arith, common_steps, c.in_ok-head.ensures, c.in_ok-table.ensures) in
+    let complete = padded_complete 4096 h.states.number (h.states.number * h.labels.number) c.in_ok-table.table.now c.with_zeros.result c.with_zeros.ensures (λ k l. c.in_ok-table.ensures.3 k (omega arith)) in
+    recognizes b h.states.number h.labels.number h.start h.finals c.with_zeros.result parts h.labels.counted h.start_state complete

@@ -3,11 +3,8 @@ use Rattle.bitset.specs.Sets.{within}
 use Rattle.measures.specs.Accepting.{shows_accepted, within_or, within_one}
 use Rattle.measures.proofs.patterns.PatternJudge.all.Goals as goal
 
-pub returns : goal.returns
-returns c =
+pub returns-clause-judges : goal.returns-clause-judges
+returns-clause-judges c =
     let m = c.args.self.now in
     let h = m.head in
-    record {
-      answer = c.all_final.ensures;
-      judges = shows_accepted h.states h.labels h.start m.table h.labels_counted h.start_state m.complete h.finals ◌&&◌ (λ (set : ℕ). within set h.finals) (within_or h.finals) (within_one h.finals);
-    }
+    shows_accepted h.states.number h.labels.number h.start m.table h.labels.counted h.start_state m.complete h.finals ◌&&◌ (λ (set : ℕ). within set h.finals) (within_or h.finals) (within_one h.finals)

@@ -3,11 +3,8 @@ use Rattle.bitset.specs.Sets.{meets}
 use Rattle.measures.specs.Accepting.{shows_accepted, meets_or, meets_one}
 use Rattle.measures.proofs.patterns.PatternJudge.some.Goals as goal
 
-pub returns : goal.returns
-returns c =
+pub returns-clause-judges : goal.returns-clause-judges
+returns-clause-judges c =
     let m = c.args.self.now in
     let h = m.head in
-    record {
-      answer = c.some_final.ensures;
-      judges = shows_accepted h.states h.labels h.start m.table h.labels_counted h.start_state m.complete h.finals ◌||◌ (λ (set : ℕ). meets set h.finals) (meets_or h.finals) (meets_one h.finals);
-    }
+    shows_accepted h.states.number h.labels.number h.start m.table h.labels.counted h.start_state m.complete h.finals ◌||◌ (λ (set : ℕ). meets set h.finals) (meets_or h.finals) (meets_one h.finals)

@@ -1,10 +1,7 @@
 use Rattle.measures.specs.Translating.{translated_judges}
 use Rattle.measures.proofs.relabellings.RelabellingJudge.all.Goals as goal
 
-pub returns : goal.returns
-returns g c =
+pub returns-clause-judges : goal.returns-clause-judges
+returns-clause-judges g c =
     let m = c.args.self.now in
-    record {
-      answer = c.all.ensures.answer;
-      judges = translated_judges m.table.entries m.table.count (g.M.Measure.meaning m.inner) (g.met.M.Measure.lawful m.inner).counted.0 c.all.ensures.judges;
-    }
+    translated_judges m.table.entries m.table.count.number (g.M.Measure.meaning m.inner) (g.met.M.Measure.lawful m.inner).counted.0 c.all.ensures.judges

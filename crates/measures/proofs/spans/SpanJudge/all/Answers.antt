@@ -3,10 +3,7 @@ use Rattle.measures.specs.declared.spans.Ends.{Ends}
 use Rattle.measures.proofs.Ranges.{shows_within, longest_joins}
 use Rattle.measures.proofs.spans.SpanJudge.all.Goals as goal
 
-pub returns : goal.returns
-returns c =
+pub returns-clause-judges : goal.returns-clause-judges
+returns-clause-judges c =
     let m = c.args.self.now in
-    record {
-      answer = c.is_within.ensures;
-      judges = shows_within m.labels m.limit m.limited ◌&&◌ (λ (v : Ends). v.longest) (λ k. refl) (longest_joins m.labels m.limit);
-    }
+    shows_within m.labels.number m.limit m.limited ◌&&◌ (λ (v : Ends). v.longest) (λ k. refl) (longest_joins m.labels.number m.limit)
