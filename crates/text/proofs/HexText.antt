@@ -31,10 +31,15 @@ hex_after (suc k) n v =
     ap (λ x. digits_value_after 16 (n * 16 + x) (hex k v)) (digit_value d (omega arith)) ∙ hex_after k (n * 16 + d) v
     ∙ simp (pow-succ', mod-mul v {m = 16} (lit< tt) some, add-mul, mul_assoc, add_assoc)
 
--- The digits of a word are 16, and read back as the word.
-pub word_reads : (v : ℕ) → v < 2 ^ 64 → (length (hex_word v) ≡ 16) × (digits_value 16 (hex_word v) ≡ v)
+-- The digits of a word are 16.
+pub hex_word_length : (v : ℕ) → length (hex_word v) ≡ 16
 unfolding hex_word
-word_reads v h = (length_hex 16 v, hex_after 16 0 v ∙ omega arith)
+hex_word_length v = length_hex 16 v
+
+-- They read back as the word.
+pub hex_word_reads : (v : ℕ) → v < 2 ^ 64 → digits_value 16 (hex_word v) ≡ v
+unfolding hex_word
+hex_word_reads v h = hex_after 16 0 v ∙ omega arith
 
 -- ---- a format with a width
 

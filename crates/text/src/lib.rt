@@ -6,6 +6,9 @@ ghost use Rattle.std.specs.Prelude.{◌≡◌, ◌++◌, length, is_ok, if◌the
 ghost use Rattle.std.specs.Str.Parse.{digits_value};
 ghost use Rattle.text.specs.Hex.{hex_word};
 
+#[cfg(test)]
+mod tests;
+
 use hex::encode_to_slice;
 use itoa::Buffer;
 use std::alloc::AllocError;
@@ -19,6 +22,7 @@ pub struct Hex {
 
 impl Hex {
     // The digits of `word`, which read back as it.
+    #[tactic(auto, using(crate::proofs::HexText::hex_word_length, crate::proofs::HexText::hex_word_reads))]
     pub fn new(word: u64) -> Hex
         ensures word { result.word ≡ word }
         ensures reads { (length (hex_word word) ≡ 16) × (digits_value 16 (hex_word word) ≡ word) }
@@ -50,6 +54,7 @@ pub fn push_decimal(out: &mut Vec<u8>, n: usize) -> Result<(), AllocError>
 
 // Appends `word` as 16 hexadecimal digits, lower case and highest first, which read back as `word`.
 // If there is no memory for them, `out` is unchanged.
+#[tactic(auto, using(crate::proofs::HexText::hex_word_length, crate::proofs::HexText::hex_word_reads, crate::proofs::HexText::word_bytes))]
 pub fn push_hex(out: &mut Vec<u8>, word: u64) -> Result<(), AllocError>
     ensures appends { out.new.items ≡ (if is_ok result then out.old.items ++ hex_word word else out.old.items) }
     ensures reads { (length (hex_word word) ≡ 16) × (digits_value 16 (hex_word word) ≡ word) }
