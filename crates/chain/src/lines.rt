@@ -1,6 +1,6 @@
 // What the lines of a report say, each as it is printed.
 ghost use Rattle.std.specs.Prelude.{◌≡◌};
-ghost use Rattle.chain.specs.Lines.{letter, number, place, bit};
+ghost use Rattle.chain.specs.Lines.{letter, number, place};
 ghost use Rattle.history.specs.Refusals.{number as board_number};
 ghost use Rattle.measures.specs.Refusals.{number as pattern_number};
 
@@ -119,22 +119,16 @@ pub(crate) struct VerdictLine {
     pub(crate) verdict: Verdict,
 }
 
-// 1 for yes, 0 for no.
-fn digit(yes: bool) -> u8
-    ensures { result ≡ bit yes }
-{
-    u8::from(yes)
-}
-
 impl fmt::Display for VerdictLine {
     ghost use Rattle.std.specs.Prelude.{Some};
     ghost use Rattle.chain.specs.Lines.{verdict_text};
 
     ghost output = { λ l. Some (verdict_text l.verdict.some l.verdict.all) };
 
+    // Each answer is 1 for yes, 0 for no.
     fn fmt<W: fmt::Write>(&self, f: &mut fmt::Formatter<W>) -> fmt::Result {
-        let some = digit(self.verdict.some);
-        let all = digit(self.verdict.all);
+        let some = u8::from(self.verdict.some);
+        let all = u8::from(self.verdict.all);
         write!(f, "some {some} all {all}")
     }
 }

@@ -18,16 +18,16 @@ pub(crate) fn write_walk<J: Judge<Value = u64>>(
     ensures { OnOk result (string_bytes out.new ≡ string_bytes out.old ++ walk_by (J.Measure.meaning judge.now) (J.Judge.some_of judge.now) (J.Judge.all_of judge.now) from labels.now) }
 {
     let mut states = judge.start();
-    for (i, label) in labels.iter().enumerate() {
-        if *label >= judge.labels() {
+    for (i, &label) in labels.iter().enumerate() {
+        if label >= judge.labels() {
             let stop = Stop::UnknownLabel(from + i);
             writeln!(out, "{stop}")?;
             return Ok(());
         }
-        states = judge.step(states, *label);
+        states = judge.step(states, label);
         let line = MarkLine {
             position: i + 1,
-            label: *label,
+            label,
             states,
         };
         writeln!(out, "{line}")?;
