@@ -1,5 +1,6 @@
 // Numbers as text: a word to be printed in hexadecimal, and numbers appended to a growing buffer of bytes.
-// Nothing is allocated but by the buffer's own growth.
+// Nothing is allocated but by the buffer's own growth. The library's `write!` does not say what a buffer holds when
+// memory runs out; the two functions that append say that it is unchanged.
 #![tactic(auto)]
 
 ghost use Rattle.std.specs.Prelude.{◌≡◌, ◌++◌, length, is_ok, if◌then◌else◌, decimal};
