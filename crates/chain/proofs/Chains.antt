@@ -1,98 +1,98 @@
 -- The walk along a chain, one label after the other.
-use Rattle.std.proofs.Common.{◌≡◌, ℕ, zero, suc, ◌+◌, ◌<◌, ◌≤◌, Bool, true, false, cond, eqb, ltb, List, [], ◌∷◌, ◌++◌, length, get_or, take, sym, refl, ap, ◌∙◌, subst, ap₂, append_assoc, append-nil, arith, length-append, length-take}
+use Rattle.std.proofs.Common.{◌≡◌, ℕ, suc, ◌+◌, ◌<◌, ◌≤◌, Bool, true, false, cond, eqb, ltb, List, [], ◌∷◌, ◌++◌, length, get_or, take, inl, inr, sym, refl, ap, ◌∙◌, subst, ap₂, append_assoc, append-nil, arith, length-append, length-take}
 use Rattle.std.proofs.lemmas.List.{take_more, take_all}
-use Rattle.std.proofs.lemmas.Bool.{lt-ltb, le-ltb, ltb-true, eq-eqb, ne_eqb, eqb-true}
+use Rattle.std.proofs.lemmas.Bool.{cases_lt, lt-ltb, ltb-true, eq-eqb, ne_eqb, eqb-true}
+use Rattle.std.proofs.lemmas.List.Sums.{prefix_len-le-length, prefix_len_passes, prefix_len_stops}
 use Rattle.measures.specs.Words.{Letter, Word, Labels}
 use Rattle.chain.specs.declared.lines.Stop.TheVariants.{UnknownLabel}
-use Rattle.chain.specs.Lines.{line_after, verdict_after, fault_after}
+use Rattle.chain.specs.Lines.{line_of, mark_text, verdict_text, fault_text}
 use Rattle.chain.specs.Walks.{known, lines, last_line, walk}
-use Rattle.chain.proofs.Texts.{line_follows, verdict_follows, fault_follows}
 
+-- One more label below n.
 labels_push : (n : ℕ) (w : Word) (l : Letter) → Labels n w → l < n → Labels n (w ++ l ∷ [])
 labels_push n [] l ls h = (h, tt)
 labels_push n (x ∷ w) l ls h = (ls.0, labels_push n w l ls.1 h)
 
-pub labels_take_more : (n : ℕ) (w : Word) (i : ℕ) → i < length w → Labels n (take i w) → get_or w i 0 < n → Labels n (take (i + 1) w)
-labels_take_more n w i here ls h = subst (Labels n) (sym (take_more w i 0 here)) (labels_push n (take i w) (get_or w i 0) ls h)
-
-known_labels : (n : ℕ) (w : Word) → Labels n (known n w)
+-- The known labels are below n.
+known_labels : (n : ℕ) (w : Word) → Labels n (take (known n w) w)
 known_labels n [] = tt
 known_labels n (l ∷ w) = go (ltb l n) refl (known_labels n w)
   where
-    go : (t : Bool) → ltb l n ≡ t → Labels n (known n w) → Labels n (cond t (l ∷ known n w) [])
-    go true e ls = (ltb-true l n e, ls)
+    go : (t : Bool) → ltb l n ≡ t → Labels n (take (known n w) w) → Labels n (take (cond t (1 + known n w) 0) (l ∷ w))
+    go true e ls = let more : 1 + known n w ≡ suc (known n w) = omega arith in rw more (ltb-true l n e, ls)
     go false e ls = tt
 
-known_all : (n : ℕ) (w : Word) → Labels n w → known n w ≡ w
-known_all n [] ls = refl
-known_all n (l ∷ w) ls = ap (λ (t : Bool). cond t (l ∷ known n w) []) (lt-ltb l n ls.0) ∙ ap (λ (v : Word). l ∷ v) (known_all n w ls.1)
+-- A label below n after i known ones is known too; one that is not ends them; and where no label is left, all are known.
+module _ (n : ℕ) (w : Word) (i : ℕ) (so_far : i ≤ known n w) where
+  pub known_more : i < length w → get_or w i 0 < n → i + 1 ≤ known n w
+  known_more here h = elim (cases_lt i (known n w)) [
+    | inl more ↦ omega arith
+    | inr end ↦
+        let e : known n w ≡ i = omega arith in
+        let stops = prefix_len_stops (λ l. ltb l n) w 0 (omega arith) in
+        let passes = lt-ltb (get_or w i 0) n h in
+        absurd (cc (rw e at stops, passes))
+  ]
 
--- the known labels end before the first that is not below n
-known_stops : (n : ℕ) (w : Word) (i : ℕ) → i < length w → Labels n (take i w) → n ≤ get_or w i 0 → known n w ≡ take i w
-known_stops n [] i here ls h = absurd (omega arith)
-known_stops n (l ∷ w) zero here ls h = ap (λ (t : Bool). cond t (l ∷ known n w) []) (le-ltb l n h)
-known_stops n (l ∷ w) (suc i) here ls h =
-    ap (λ (t : Bool). cond t (l ∷ known n w) []) (lt-ltb l n ls.0) ∙ ap (λ (v : Word). l ∷ v) (known_stops n w i (omega arith) ls.1 h)
+  known_stops : n ≤ get_or w i 0 → known n w ≡ i
+  known_stops h = elim (cases_lt i (known n w)) [
+    | inl more ↦
+        let passes = ltb-true (get_or w i 0) n (prefix_len_passes (λ l. ltb l n) w i 0 more) in
+        absurd (omega arith)
+    | inr end ↦ omega arith
+  ]
 
-known_whole : (n : ℕ) (w : Word) → length (known n w) ≡ length w → known n w ≡ w
-known_whole n [] e = refl
-known_whole n (l ∷ w) e = go (ltb l n) (known_whole n w) e
-  where
-    go : (t : Bool) → (length (known n w) ≡ length w → known n w ≡ w) → length (cond t (l ∷ known n w) []) ≡ length (l ∷ w) → cond t (l ∷ known n w) [] ≡ l ∷ w
-    go true rest e = ap (λ (v : Word). l ∷ v) (rest (omega arith))
-    go false rest e = absurd (omega arith)
+  known_all : length w ≤ i → known n w ≡ length w
+  known_all h = omega (arith, prefix_len-le-length (λ l. ltb l n) w)
 
 module _ (f : Word → ℕ) where
-  lines_push : (done w : Word) (l p : ℕ) → p ≡ length done + length w + 1 → lines f done (w ++ l ∷ []) ≡ lines f done w ++ line_after [] p l (f (done ++ (w ++ l ∷ [])))
+  lines_push : (done w : Word) (l p : ℕ) → p ≡ length done + length w + 1 → lines f done (w ++ l ∷ []) ≡ lines f done w ++ line_of (mark_text p l (f (done ++ (w ++ l ∷ []))))
   lines_push done [] l p e =
-      append-nil (line_after [] (length done + 1) l (f (done ++ l ∷ [])))
-      ∙ ap (λ (k : ℕ). line_after [] k l (f (done ++ l ∷ []))) (omega arith)
+      append-nil (line_of (mark_text (length done + 1) l (f (done ++ l ∷ []))))
+      ∙ ap (λ (k : ℕ). line_of (mark_text k l (f (done ++ l ∷ [])))) (omega arith)
   lines_push done (x ∷ w) l p e =
-      let here = line_after [] (length done + 1) x (f (done ++ x ∷ [])) in
+      let here = line_of (mark_text (length done + 1) x (f (done ++ x ∷ []))) in
       ap (λ (t : List ℕ). here ++ t) (lines_push (done ++ x ∷ []) w l p (simp length-append (omega arith)))
-      ∙ ap (λ (v : Word). here ++ (lines f (done ++ x ∷ []) w ++ line_after [] p l (f v))) (append_assoc done (x ∷ []) (w ++ l ∷ []))
-      ∙ sym (append_assoc here (lines f (done ++ x ∷ []) w) (line_after [] p l (f (done ++ (x ∷ (w ++ l ∷ []))))))
+      ∙ ap (λ (v : Word). here ++ (lines f (done ++ x ∷ []) w ++ line_of (mark_text p l (f v)))) (append_assoc done (x ∷ []) (w ++ l ∷ []))
+      ∙ sym (append_assoc here (lines f (done ++ x ∷ []) w) (line_of (mark_text p l (f (done ++ (x ∷ (w ++ l ∷ [])))))))
 
   -- `base`, and then the lines of the first i labels
   module _ (base out : List ℕ) (w : Word) (i : ℕ) (is : out ≡ base ++ lines f [] (take i w)) where
-    pub lines_more : (after : List ℕ) (set : ℕ) → i < length w → after ≡ line_after out (i + 1) (get_or w i 0) set → set ≡ f (take (i + 1) w) → after ≡ base ++ lines f [] (take (i + 1) w)
+    pub lines_more : (after : List ℕ) (set : ℕ) → i < length w → after ≡ out ++ line_of (mark_text (i + 1) (get_or w i 0) set) → set ≡ f (take (i + 1) w) → after ≡ base ++ lines f [] (take (i + 1) w)
     lines_more after set here line same =
         let l = get_or w i 0 in
-        let more = line_after [] (i + 1) l (f (take (i + 1) w)) in
-        let push : lines f [] (take i w ++ l ∷ []) ≡ lines f [] (take i w) ++ line_after [] (i + 1) l (f (take i w ++ l ∷ [])) = lines_push [] (take i w) l (i + 1) (simp length-take (omega arith)) in
+        let more = line_of (mark_text (i + 1) l (f (take (i + 1) w))) in
+        let push : lines f [] (take i w ++ l ∷ []) ≡ lines f [] (take i w) ++ line_of (mark_text (i + 1) l (f (take i w ++ l ∷ []))) = lines_push [] (take i w) l (i + 1) (simp length-take (omega arith)) in
         line
-        ∙ ap (line_after out (i + 1) l) same
-        ∙ line_follows out (i + 1) l (f (take (i + 1) w))
+        ∙ ap (λ (k : ℕ). out ++ line_of (mark_text (i + 1) l k)) same
         ∙ ap (λ (t : List ℕ). t ++ more) is
         ∙ append_assoc base (lines f [] (take i w)) more
-        ∙ ap (λ (t : List ℕ). base ++ t) (subst (λ (v : Word). lines f [] (take i w) ++ line_after [] (i + 1) l (f v) ≡ lines f [] v) (sym (take_more w i 0 here)) (sym push))
+        ∙ ap (λ (t : List ℕ). base ++ t) (subst (λ (v : Word). lines f [] (take i w) ++ line_of (mark_text (i + 1) l (f v)) ≡ lines f [] v) (sym (take_more w i 0 here)) (sym push))
 
-    module _ (some all : Word → Bool) (n from : ℕ) (ls : Labels n (take i w)) where
-      pub walk_stops : (after : List ℕ) → i < length w → n ≤ get_or w i 0 → after ≡ fault_after out (UnknownLabel (from + i)) → after ≡ base ++ walk f some all n from w
+    module _ (some all : Word → Bool) (n from : ℕ) (so_far : i ≤ known n w) where
+      pub walk_stops : (after : List ℕ) → i < length w → n ≤ get_or w i 0 → after ≡ out ++ line_of (fault_text (UnknownLabel (from + i))) → after ≡ base ++ walk f some all n from w
       walk_stops after here h line =
-          let k = known_stops n w i here ls h in
-          let short : length (known n w) ≡ i = ap length k ∙ simp length-take (omega arith) in
-          let last : last_line some all n from w ≡ fault_after [] (UnknownLabel (from + i)) =
-          ap (λ (t : Bool). cond t (verdict_after [] (some w) (all w)) (fault_after [] (UnknownLabel (from + length (known n w))))) (ne_eqb (length (known n w)) (length w) (λ e. omega arith))
-          ∙ ap (λ (j : ℕ). fault_after [] (UnknownLabel (from + j))) short in
+          let k = known_stops n w i so_far h in
+          let last : last_line some all n from w ≡ line_of (fault_text (UnknownLabel (from + i))) =
+          ap (λ (t : Bool). cond t (line_of (verdict_text (some w) (all w))) (line_of (fault_text (UnknownLabel (from + known n w))))) (ne_eqb (known n w) (length w) (λ e. omega arith))
+          ∙ ap (λ (j : ℕ). line_of (fault_text (UnknownLabel (from + j)))) k in
           line
-          ∙ fault_follows out (UnknownLabel (from + i))
-          ∙ ap (λ (t : List ℕ). t ++ fault_after [] (UnknownLabel (from + i))) is
-          ∙ append_assoc base (lines f [] (take i w)) (fault_after [] (UnknownLabel (from + i)))
-          ∙ ap₂ (λ (v : Word) (t : List ℕ). base ++ (lines f [] v ++ t)) (sym k) (sym last)
+          ∙ ap (λ (t : List ℕ). t ++ line_of (fault_text (UnknownLabel (from + i)))) is
+          ∙ append_assoc base (lines f [] (take i w)) (line_of (fault_text (UnknownLabel (from + i))))
+          ∙ ap₂ (λ (j : ℕ) (t : List ℕ). base ++ (lines f [] (take j w) ++ t)) (sym k) (sym last)
 
-      pub walk_ends : (after : List ℕ) (yes_some yes_all : Bool) → length w ≤ i → after ≡ verdict_after out yes_some yes_all → yes_some ≡ some w → yes_all ≡ all w → after ≡ base ++ walk f some all n from w
+      pub walk_ends : (after : List ℕ) (yes_some yes_all : Bool) → length w ≤ i → after ≡ out ++ line_of (verdict_text yes_some yes_all) → yes_some ≡ some w → yes_all ≡ all w → after ≡ base ++ walk f some all n from w
       walk_ends after yes_some yes_all h line es ea =
           let whole : take i w ≡ w = take_all i w h in
-          let k = known_all n w (subst (Labels n) whole ls) in
-          let last : last_line some all n from w ≡ verdict_after [] (some w) (all w) =
-          ap (λ (t : Bool). cond t (verdict_after [] (some w) (all w)) (fault_after [] (UnknownLabel (from + length (known n w))))) (eq-eqb (length (known n w)) (length w) (ap length k)) in
+          let k = known_all n w i so_far h in
+          let all_known : take (known n w) w ≡ w = take_all (known n w) w (omega arith) in
+          let last : last_line some all n from w ≡ line_of (verdict_text (some w) (all w)) =
+          ap (λ (t : Bool). cond t (line_of (verdict_text (some w) (all w))) (line_of (fault_text (UnknownLabel (from + known n w))))) (eq-eqb (known n w) (length w) k) in
           line
-          ∙ ap₂ (verdict_after out) es ea
-          ∙ verdict_follows out (some w) (all w)
-          ∙ ap (λ (t : List ℕ). t ++ verdict_after [] (some w) (all w)) is
-          ∙ append_assoc base (lines f [] (take i w)) (verdict_after [] (some w) (all w))
-          ∙ ap₂ (λ (v : Word) (t : List ℕ). base ++ (lines f [] v ++ t)) (whole ∙ sym k) (sym last)
+          ∙ ap₂ (λ (x y : Bool). out ++ line_of (verdict_text x y)) es ea
+          ∙ ap (λ (t : List ℕ). t ++ line_of (verdict_text (some w) (all w))) is
+          ∙ append_assoc base (lines f [] (take i w)) (line_of (verdict_text (some w) (all w)))
+          ∙ ap₂ (λ (v : Word) (t : List ℕ). base ++ (lines f [] v ++ t)) (whole ∙ sym all_known) (sym last)
 
 -- Two accounts of the words of labels below n that agree give the same walk.
 module _ (n : ℕ) (f g : Word → ℕ) (same : (w : Word) → Labels n w → f w ≡ g w) where
@@ -100,12 +100,12 @@ module _ (n : ℕ) (f g : Word → ℕ) (same : (w : Word) → Labels n w → f 
   lines_same done [] ds ls = refl
   lines_same done (l ∷ w) ds ls =
       let more = labels_push n done l ds ls.0 in
-      ap₂ (λ (set : ℕ) (t : List ℕ). line_after [] (length done + 1) l set ++ t) (same (done ++ l ∷ []) more) (lines_same (done ++ l ∷ []) w more ls.1)
+      ap₂ (λ (set : ℕ) (t : List ℕ). line_of (mark_text (length done + 1) l set) ++ t) (same (done ++ l ∷ []) more) (lines_same (done ++ l ∷ []) w more ls.1)
 
   pub walk_same : (some all yes_some yes_all : Word → Bool) → ((w : Word) → Labels n w → some w ≡ yes_some w) → ((w : Word) → Labels n w → all w ≡ yes_all w) → (from : ℕ) (w : Word) → walk f some all n from w ≡ walk g yes_some yes_all n from w
   walk_same some all yes_some yes_all ss aa from w =
-      ap₂ ◌++◌ (lines_same [] (known n w) tt (known_labels n w)) (go (eqb (length (known n w)) (length w)) refl)
+      ap₂ ◌++◌ (lines_same [] (take (known n w) w) tt (known_labels n w)) (go (eqb (known n w) (length w)) refl)
     where
-      go : (t : Bool) → eqb (length (known n w)) (length w) ≡ t → cond t (verdict_after [] (some w) (all w)) (fault_after [] (UnknownLabel (from + length (known n w)))) ≡ cond t (verdict_after [] (yes_some w) (yes_all w)) (fault_after [] (UnknownLabel (from + length (known n w))))
-      go true e = let ls : Labels n w = subst (Labels n) (known_whole n w (eqb-true (length (known n w)) (length w) e)) (known_labels n w) in ap₂ (verdict_after []) (ss w ls) (aa w ls)
+      go : (t : Bool) → eqb (known n w) (length w) ≡ t → cond t (line_of (verdict_text (some w) (all w))) (line_of (fault_text (UnknownLabel (from + known n w)))) ≡ cond t (line_of (verdict_text (yes_some w) (yes_all w))) (line_of (fault_text (UnknownLabel (from + known n w))))
+      go true e = let ls : Labels n w = subst (Labels n) (take_all (known n w) w (omega (arith, eqb-true (known n w) (length w) e))) (known_labels n w) in ap₂ (λ (x y : Bool). line_of (verdict_text x y)) (ss w ls) (aa w ls)
       go false e = refl

@@ -1,28 +1,28 @@
 -- The lines of a walk along a chain.
-use Rattle.std.specs.Prelude.{ℕ, ◌+◌, Bool, cond, List, [], ◌∷◌, ◌++◌, length, ◌==◌, nat_lt}
+use Rattle.std.specs.Prelude.{ℕ, ◌+◌, Bool, cond, List, [], ◌∷◌, ◌++◌, length, take, ◌==◌, nat_lt}
+use Rattle.std.specs.List.{prefix_len}
 use Rattle.measures.specs.Measures.{Meaning, carried}
 use Rattle.measures.specs.Words.{Word}
 use Rattle.chain.specs.declared.lines.Stop.TheVariants.{UnknownLabel}
-use Rattle.chain.specs.Lines.{line_after, verdict_after, fault_after}
+use Rattle.chain.specs.Lines.{line_of, mark_text, verdict_text, fault_text}
 
--- the labels before the first that is not below n
-abbrev pub known : ℕ → Word → Word
-known n [] = []
-known n (l ∷ w) = cond (nat_lt l n) (l ∷ known n w) []
+-- how many labels stand before the first that is not below n
+abbrev pub known : ℕ → Word → ℕ
+known n w = prefix_len (λ l. nat_lt l n) w
 
 -- A line for each label of w, in a chain that began with `done`: `set_of` gives the set of states after a word.
 abbrev pub lines : (Word → ℕ) → Word → Word → List ℕ
 lines set_of done [] = []
-lines set_of done (l ∷ w) = line_after [] (length done + 1) l (set_of (done ++ l ∷ [])) ++ lines set_of (done ++ l ∷ []) w
+lines set_of done (l ∷ w) = line_of (mark_text (length done + 1) l (set_of (done ++ l ∷ []))) ++ lines set_of (done ++ l ∷ []) w
 
 -- The verdict on the word, or the fault of its first label that is not below n, at its byte; the word begins at the byte `from`.
 abbrev pub last_line : (Word → Bool) → (Word → Bool) → ℕ → ℕ → Word → List ℕ
 last_line some all n from w =
-    cond (length (known n w) == length w) (verdict_after [] (some w) (all w)) (fault_after [] (UnknownLabel (from + length (known n w))))
+    cond (known n w == length w) (line_of (verdict_text (some w) (all w))) (line_of (fault_text (UnknownLabel (from + known n w))))
 
 -- The lines of the labels that are below n, and the last line.
 abbrev pub walk : (Word → ℕ) → (Word → Bool) → (Word → Bool) → ℕ → ℕ → Word → List ℕ
-walk set_of some all n from w = lines set_of [] (known n w) ++ last_line some all n from w
+walk set_of some all n from w = lines set_of [] (take (known n w) w) ++ last_line some all n from w
 
 -- The walk of a judge with the measure m and the answers `some` and `all`.
 abbrev pub walk_by : Meaning ℕ → (ℕ → Bool) → (ℕ → Bool) → ℕ → Word → List ℕ

@@ -1,13 +1,16 @@
-// The lines of a report, each appended whole.
-ghost use Rattle.std.specs.Prelude.{◌≡◌, OnOk};
-ghost use Rattle.chain.specs.Lines.{letter, number, place, bit, line_after, verdict_after, fault_after};
+// What the lines of a report say, each as it is printed.
+ghost use Rattle.std.specs.Prelude.{◌≡◌};
+ghost use Rattle.chain.specs.Lines.{letter, number, place};
 
-use measures::Fault;
-use std::alloc::AllocError;
-use text::{push_decimal, push_hex};
+use measures::{Fault, Verdict};
+use std::fmt;
+use text::Hex;
+
+// The number of a fault that no crate below has: too much input.
+const TOO_LONG: u8 = 29;
 
 // Why a report ends with a fault: too much input, a bad pattern, or a label that the pattern does not have, at its byte.
-#[derive(Clone, Copy)]
+#[derive(Clone, Copy, PartialEq, Eq, Debug)]
 pub(crate) enum Stop {
     TooLong,
     BadPattern(Fault),
@@ -16,81 +19,103 @@ pub(crate) enum Stop {
 
 impl Stop {
     // The letter of the layer that met the fault: input, pattern or board.
-    fn letter(self) -> u8
-        ensures { result ≡ letter self }
+    fn letter(self) -> &'static str
+        ensures { result.now ≡ letter self }
     {
         match self {
-            Stop::TooLong => b'I',
-            Stop::BadPattern(_) => b'P',
-            Stop::UnknownLabel(_) => b'B',
+            Stop::TooLong => "I",
+            Stop::BadPattern(_) => "P",
+            Stop::UnknownLabel(_) => "B",
         }
     }
 
+    // The number of the fault: the reader's, a board's, or the one for too much input.
     fn number(self) -> u8
         ensures { result ≡ number self }
     {
         match self {
-            Stop::TooLong => 29,
+            Stop::TooLong => TOO_LONG,
             Stop::BadPattern(fault) => u8::from(fault.refusal),
-            Stop::UnknownLabel(_) => 6,
+            Stop::UnknownLabel(_) => u8::from(history::Refusal::NoSuchLabel),
         }
     }
 
+    // The byte of the input where it was met.
     fn place(self) -> usize
         ensures { result ≡ place self }
     {
         match self {
-            Stop::TooLong => 65536,
+            Stop::TooLong => crate::reports::MOST_BYTES,
             Stop::BadPattern(fault) => fault.place,
             Stop::UnknownLabel(place) => place,
         }
     }
 }
 
-pub(crate) fn push_fault(out: &mut Vec<u8>, stop: Stop) -> Result<(), AllocError>
-    ensures { OnOk result (out.new.items ≡ fault_after out.old.items stop) }
-{
-    out.extend_from_slice(b"fault ")?;
-    out.push(stop.letter())?;
-    out.push(b' ')?;
-    push_decimal(out, stop.number() as usize)?;
-    out.push(b' ')?;
-    push_decimal(out, stop.place())?;
-    out.push(b'\n')?;
-    Ok(())
+// A pattern that is refused stops the report.
+impl From<Fault> for Stop {
+    ghost use Rattle.std.specs.Prelude.{◌≡◌};
+    ghost use Rattle.chain.specs.declared.lines.Stop.TheVariants.{BadPattern};
+
+    ghost from_gives = { λ f s. s ≡ BadPattern f };
+
+    fn from(fault: Fault) -> Stop {
+        Stop::BadPattern(fault)
+    }
 }
 
-pub(crate) fn push_line(
-    out: &mut Vec<u8>,
-    position: usize,
-    label: u8,
-    states: u64,
-) -> Result<(), AllocError>
-    ensures { OnOk result (out.new.items ≡ line_after out.old.items position label states) }
-{
-    push_decimal(out, position)?;
-    out.push(b' ')?;
-    push_decimal(out, label as usize)?;
-    out.push(b' ')?;
-    push_hex(out, states)?;
-    out.push(b'\n')?;
-    Ok(())
+impl fmt::Display for Stop {
+    ghost use Rattle.std.specs.Prelude.{Some};
+    ghost use Rattle.chain.specs.Lines.{fault_text};
+
+    ghost output = { λ s. Some (fault_text s) };
+
+    fn fmt<W: fmt::Write>(&self, f: &mut fmt::Formatter<W>) -> fmt::Result {
+        let letter = self.letter();
+        let number = self.number();
+        let place = self.place();
+        write!(f, "fault {letter} {number} {place}")
+    }
 }
 
-// 1 for yes, 0 for no.
-fn digit(yes: bool) -> u8
-    ensures { result ≡ bit yes }
-{
-    if yes { b'1' } else { b'0' }
+// A mark of the chain: its position from 1, its label, and the set of states after it.
+#[derive(Clone, Copy, PartialEq, Eq, Debug)]
+pub(crate) struct MarkLine {
+    pub(crate) position: usize,
+    pub(crate) label: u8,
+    pub(crate) states: u64,
 }
 
-pub(crate) fn push_verdict(out: &mut Vec<u8>, some: bool, all: bool) -> Result<(), AllocError>
-    ensures { OnOk result (out.new.items ≡ verdict_after out.old.items some all) }
-{
-    out.extend_from_slice(b"some ")?;
-    out.push(digit(some))?;
-    out.extend_from_slice(b" all ")?;
-    out.push(digit(all))?;
-    out.push(b'\n')?;
-    Ok(())
+impl fmt::Display for MarkLine {
+    ghost use Rattle.std.specs.Prelude.{Some};
+    ghost use Rattle.chain.specs.Lines.{mark_text};
+
+    ghost output = { λ l. Some (mark_text l.position l.label l.states) };
+
+    fn fmt<W: fmt::Write>(&self, f: &mut fmt::Formatter<W>) -> fmt::Result {
+        let position = self.position;
+        let label = self.label;
+        let states = Hex::new(self.states);
+        write!(f, "{position} {label} {states}")
+    }
+}
+
+// The verdict on the whole chain.
+#[derive(Clone, Copy, PartialEq, Eq, Debug)]
+pub(crate) struct VerdictLine {
+    pub(crate) verdict: Verdict,
+}
+
+impl fmt::Display for VerdictLine {
+    ghost use Rattle.std.specs.Prelude.{Some};
+    ghost use Rattle.chain.specs.Lines.{verdict_text};
+
+    ghost output = { λ l. Some (verdict_text l.verdict.some l.verdict.all) };
+
+    // Each answer is 1 for yes, 0 for no.
+    fn fmt<W: fmt::Write>(&self, f: &mut fmt::Formatter<W>) -> fmt::Result {
+        let some = u8::from(self.verdict.some);
+        let all = u8::from(self.verdict.all);
+        write!(f, "some {some} all {all}")
+    }
 }

@@ -18,5 +18,5 @@ fn main(rt: HostRuntime) -> io::Result<()> {
         .take(reports::MOST_BYTES as u64 + 1)
         .read_to_end(&mut input)?;
     let out = reports::report(rt.alloc(), &input)?;
-    rt.stdout().write_all(&out)
+    rt.stdout().write_all(out.as_bytes())
 }

@@ -1,43 +1,43 @@
 // The report on a chain.
-ghost use Rattle.std.specs.Prelude.{◌≡◌, ◌++◌, IfOk, OnOk};
-ghost use Rattle.measures.specs.Formats.{pattern_fault};
-ghost use Rattle.chain.specs.Reports.{judged, report_on};
+ghost use Rattle.std.specs.Prelude.{◌≡◌, IfOk, Some, None, MatchResult, string_bytes};
+ghost use Rattle.measures.specs.Acceptance.{Recognizes};
+ghost use Rattle.chain.specs.Reports.{chain_start, stop_on, report_on};
 
-use super::lines::{Stop, push_fault};
-use super::walks::push_walk;
-use measures::Pattern;
+use super::lines::Stop;
+use super::walks::write_walk;
+use measures::{Judge, Measure, Pattern};
 use std::alloc::{AllocError, Global};
 
 // A longer input is not read.
 pub(crate) const MOST_BYTES: usize = 65536;
 
-// The fault of a bad pattern alone, or the header and the walk along the labels after the pattern.
-fn push_judged(out: &mut Vec<u8>, input: &[u8]) -> Result<(), AllocError>
-    ensures { OnOk result (out.new.items ≡ out.old.items ++ judged input.now (pattern_fault input.now)) }
+// The pattern at the front of an input that is not too long, and the byte after it.
+fn read(input: &[u8]) -> Result<(Pattern, usize), Stop>
+    ensures answer { MatchResult result (λ r. (stop_on input.now ≡ None) × (r.1 ≡ chain_start input.now)) (λ s. stop_on input.now ≡ Some s) }
+    ensures recognizes { IfOk result (λ r. Recognizes input.now (⟦<Pattern as Measure>⟧.meaning r.0) (⟦<Pattern as Judge>⟧.some_of r.0) (⟦<Pattern as Judge>⟧.all_of r.0)) }
 {
-    match Pattern::read(input) {
-        Err(fault) => {
-            push_fault(out, Stop::BadPattern(fault))?;
-            Ok(())
-        }
-        Ok(pattern) => {
-            let from = pattern.size();
-            out.extend_from_slice(b"mark label states\n")?;
-            push_walk(out, &pattern, &input[from..], from)?;
-            Ok(())
-        }
+    if input.len() > MOST_BYTES {
+        return Err(Stop::TooLong);
     }
+    let pattern = Pattern::read(input)?;
+    let from = pattern.size();
+    Ok((pattern, from))
 }
 
 // The report on an input: a pattern, and then the labels of a chain to the end. It fails only for want of memory.
-pub fn report(heap: Global, input: &[u8]) -> Result<Vec<u8>, AllocError>
-    ensures { IfOk result (λ out. out.items ≡ report_on input.now) }
+pub fn report(heap: Global, input: &[u8]) -> Result<String, AllocError>
+    ensures { IfOk result (λ out. string_bytes out ≡ report_on input.now) }
 {
-    let mut out = Vec::new(heap);
-    if input.len() > MOST_BYTES {
-        push_fault(&mut out, Stop::TooLong)?;
-    } else {
-        push_judged(&mut out, input)?;
+    let mut out = String::new(heap);
+    match read(input) {
+        Err(stop) => {
+            writeln!(out, "{stop}")?;
+            Ok(out)
+        }
+        Ok((pattern, from)) => {
+            writeln!(out, "mark label states")?;
+            write_walk(&mut out, &pattern, &input[from..], from)?;
+            Ok(out)
+        }
     }
-    Ok(out)
 }

@@ -10,7 +10,7 @@ const PATTERN: [u8; 27] = [
 
 fn reported(rt: &(impl Abort + AllocGlobal), input: &[u8], text: &str) -> Result<(), Fail> {
     let out = report(rt.alloc(), input)?;
-    assert!(rt; out.as_slice() == text.as_bytes());
+    assert!(rt; out.as_str() == text);
     Ok(())
 }
 

@@ -26,24 +26,31 @@ pub trait Judge: Measure {
         ensures judges { Judges ◌&&◌ (Self.Measure.meaning self.now) (Self.Measure.admits self.now) (all_of self.now) (good self.now) };
 }
 
-// Whether some, and whether all, of the words that v stands for are good. Of the value told at an accepted mark in any run of a board they
-// say whether a longest flow that ends there is good, and whether each is (`flows`).
-pub fn verdicts<J: Judge>(j: &J, v: J::Value) -> (bool, bool)
-    ensures some { result.0 ≡ J.Judge.some_of j.now v }
-    ensures all { result.1 ≡ J.Judge.all_of j.now v }
+// What a judge says of a value: whether some, and whether all, of the words that it stands for are good.
+#[derive(Clone, Copy, PartialEq, Eq, Debug)]
+pub struct Verdict {
+    pub some: bool,
+    pub all: bool,
+}
+
+// The verdict on the words that v stands for. Of the value told at an accepted mark in any run of a board it
+// says whether a longest flow that ends there is good, and whether each is (`flows`).
+pub fn verdicts<J: Judge>(j: &J, v: J::Value) -> Verdict
+    ensures some { result.some ≡ J.Judge.some_of j.now v }
+    ensures all { result.all ≡ J.Judge.all_of j.now v }
     ensures flows { MarksJudged (J.Measure.meaning j.now) (J.Judge.some_of j.now) (J.Judge.all_of j.now) (J.Judge.good j.now) }
 {
     answers(j, v)
 }
 
-// The two answers, each with what the judge shows of it.
-fn answers<J: Judge>(j: &J, v: J::Value) -> (bool, bool)
-    ensures some { result.0 ≡ J.Judge.some_of j.now v }
-    ensures all { result.1 ≡ J.Judge.all_of j.now v }
+// The verdict, each answer with what the judge shows of it.
+fn answers<J: Judge>(j: &J, v: J::Value) -> Verdict
+    ensures some { result.some ≡ J.Judge.some_of j.now v }
+    ensures all { result.all ≡ J.Judge.all_of j.now v }
     ensures some_judges { Judges ◌||◌ (J.Measure.meaning j.now) (J.Measure.admits j.now) (J.Judge.some_of j.now) (J.Judge.good j.now) }
     ensures all_judges { Judges ◌&&◌ (J.Measure.meaning j.now) (J.Measure.admits j.now) (J.Judge.all_of j.now) (J.Judge.good j.now) }
 {
     let some = j.some(v);
     let all = j.all(v);
-    (some, all)
+    Verdict { some, all }
 }

@@ -18,7 +18,7 @@ pub mod spans;
 mod tables;
 
 pub use counts::FlowCount;
-pub use judges::{Judge, verdicts};
+pub use judges::{Judge, Verdict, verdicts};
 pub use merging::{merge_value, merge_values};
 pub use patterns::Pattern;
 pub use refusals::{Fault, Refusal};

@@ -1,3 +1,1 @@
-mod Decimal
-mod Hex
-mod Places
+mod HexText

@@ -1,34 +1,46 @@
-// Numbers as text, appended to a growing buffer of bytes. Nothing is allocated but by the buffer's own growth.
+// Numbers as text: a word to be printed in hexadecimal, and numbers appended to a growing buffer of bytes.
+// Nothing is allocated but by the buffer's own growth. The library's `write!` does not say what a buffer holds when
+// memory runs out; the two functions that append say that it is unchanged.
 #![tactic(auto)]
 
-ghost use Rattle.std.specs.Prelude.{◌≡◌, ◌+◌, ◌%◌, ◌<◌, ◌≤◌, ◌++◌, length, is_ok, if◌then◌else◌, decimal};
-ghost use Rattle.std.specs.List.{between};
+ghost use Rattle.std.specs.Prelude.{◌≡◌, ◌++◌, length, is_ok, if◌then◌else◌, decimal};
 ghost use Rattle.std.specs.Str.Parse.{digits_value};
-ghost use Rattle.text.specs.Hex.{digit_in_hex, hex_word};
+ghost use Rattle.text.specs.Hex.{hex_word};
 
+#[cfg(test)]
+mod tests;
+
+use hex::encode_to_slice;
+use itoa::Buffer;
 use std::alloc::AllocError;
+use std::fmt;
 
-// The last decimal digit of n.
-fn decimal_digit(n: usize) -> u8
-    ensures { result ≡ 48 + n % 10 }
-{
-    b'0' + (n % 10) as u8
+// A word that prints as 16 hexadecimal digits, lower case and highest first.
+#[derive(Clone, Copy, PartialEq, Eq, Debug)]
+pub struct Hex {
+    pub word: u64,
 }
 
-// Writes the decimal digits of n to the end of `digits`, and returns the place of the first.
-fn write_decimal(digits: &mut [u8; 20], n: usize) -> usize
-    ensures start { result ≤ 20 }
-    ensures digits { between result 20 digits.new ≡ decimal n }
-{
-    let mut rest = n;
-    let mut start = 20;
-    loop {
-        start -= 1;
-        digits[start] = decimal_digit(rest);
-        rest /= 10;
-        if rest == 0 {
-            return start;
-        }
+impl Hex {
+    // The digits of `word`, which read back as it.
+    #[tactic(auto, using(crate::proofs::HexText::hex_word_length, crate::proofs::HexText::hex_word_reads))]
+    pub fn new(word: u64) -> Hex
+        ensures word { result.word ≡ word }
+        ensures reads { (length (hex_word word) ≡ 16) × (digits_value 16 (hex_word word) ≡ word) }
+    {
+        Hex { word }
+    }
+}
+
+impl fmt::Display for Hex {
+    ghost use Rattle.std.specs.Prelude.{Some};
+    ghost use Rattle.text.specs.Hex.{hex_word};
+
+    ghost output = { λ h. Some (hex_word h.word) };
+
+    fn fmt<W: fmt::Write>(&self, f: &mut fmt::Formatter<W>) -> fmt::Result {
+        let word = self.word;
+        write!(f, "{word:016x}")
     }
 }
 
@@ -36,45 +48,19 @@ fn write_decimal(digits: &mut [u8; 20], n: usize) -> usize
 pub fn push_decimal(out: &mut Vec<u8>, n: usize) -> Result<(), AllocError>
     ensures { out.new.items ≡ (if is_ok result then out.old.items ++ decimal n else out.old.items) }
 {
-    let mut digits = [0; 20];
-    let start = write_decimal(&mut digits, n);
-    out.extend_from_slice(&digits[start..])
-}
-
-// The byte of the hexadecimal digit d.
-fn hex_digit(d: u8) -> u8
-    requires { d < 16 }
-    ensures { result ≡ digit_in_hex d }
-{
-    if d < 10 { b'0' + d } else { b'a' + (d - 10) }
-}
-
-// The last four bits of `word`.
-fn low_nibble(word: u64) -> u8
-    ensures { result ≡ word % 16 }
-{
-    (word % 16) as u8
-}
-
-// The 16 hexadecimal digits of `word`, highest first.
-fn hex_digits(word: u64) -> [u8; 16]
-    ensures digits { result ≡ hex_word word }
-    ensures reads { (length (hex_word word) ≡ 16) × (digits_value 16 (hex_word word) ≡ word) }
-{
-    let mut digits = [0; 16];
-    let mut rest = word;
-    for i in (0..16).rev() {
-        digits[i] = hex_digit(low_nibble(rest));
-        rest /= 16;
-    }
-    digits
+    let mut buffer = Buffer::new();
+    let digits = buffer.format(n).as_bytes();
+    out.extend_from_slice(digits)
 }
 
 // Appends `word` as 16 hexadecimal digits, lower case and highest first, which read back as `word`.
 // If there is no memory for them, `out` is unchanged.
+#[tactic(auto, using(crate::proofs::HexText::hex_word_length, crate::proofs::HexText::hex_word_reads, crate::proofs::HexText::word_bytes))]
 pub fn push_hex(out: &mut Vec<u8>, word: u64) -> Result<(), AllocError>
     ensures appends { out.new.items ≡ (if is_ok result then out.old.items ++ hex_word word else out.old.items) }
     ensures reads { (length (hex_word word) ≡ 16) × (digits_value 16 (hex_word word) ≡ word) }
 {
-    out.extend_from_slice(&hex_digits(word))
+    let mut digits = [0; 16];
+    encode_to_slice(word.to_be_bytes(), &mut digits).unwrap();
+    out.extend_from_slice(&digits)
 }

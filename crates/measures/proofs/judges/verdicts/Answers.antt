@@ -1,12 +1,8 @@
 use Rattle.measures.proofs.Judging.{marks_judged}
 use Rattle.measures.proofs.judges.verdicts.Goals as goal
 
-pub returns : goal.returns
-returns g c =
+pub returns-clause-flows : goal.returns-clause-flows
+returns-clause-flows g c =
     let j = c.args.j.now in
-    record {
-      some = c.answers.ensures.some;
-      all = c.answers.ensures.all;
-      flows = marks_judged (g.J.Measure.meaning j) (g.J.Measure.admits j) (g.met.J.Measure.lawful j) (g.J.Judge.some_of j) (g.J.Judge.all_of j) (g.J.Judge.good j)
-          c.answers.ensures.some_judges c.answers.ensures.all_judges;
-    }
+    marks_judged (g.J.Measure.meaning j) (g.J.Measure.admits j) (g.met.J.Measure.lawful j) (g.J.Judge.some_of j) (g.J.Judge.all_of j) (g.J.Judge.good j)
+    c.answers.ensures.some_judges c.answers.ensures.all_judges
