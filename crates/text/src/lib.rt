@@ -38,6 +38,7 @@ impl fmt::Display for Hex {
 
     ghost output = { λ h. Some (hex_word h.word) };
 
+    #[tactic(auto, using(crate::proofs::HexText::padded_word))]
     fn fmt<W: fmt::Write>(&self, f: &mut fmt::Formatter<W>) -> fmt::Result {
         let word = self.word;
         write!(f, "{word:016x}")
