@@ -8,7 +8,7 @@ use Rattle.std.proofs.lemmas.Bool.{cases_lt}
 use Rattle.std.proofs.lemmas.List.Edits.{paste_more}
 use Rattle.grid.specs.declared.RowPair.{RowPair}
 use Rattle.grid.specs.Grids.{LieWithin, with_cells}
-use Rattle.grid.specs.Rows.{tabled}
+use Rattle.grid.specs.Rows.{row, tabled}
 
 -- a row below h rows lies within them
 pub row_fits : (r h n : ℕ) → r < h → r * n + n ≤ h * n
@@ -38,6 +38,22 @@ put_at a j xs ys v h e =
 pub untouched : {X : Type 0} (xs ys : List X) (at i k : ℕ) (d : X) → at + i ≤ length xs → i ≤ length ys → (k < at) ⊎ (at + i ≤ k) → get_or (paste xs at ys i) k d ≡ get_or xs k d
 untouched xs ys at i k d h l (inl below) = search (rules, places)
 untouched xs ys at i k d h l (inr above) = grind (arith, places)
+
+-- a copy of one row to another, one cell more
+pub copied_more : {X : Type 0} (rows : RowPair) (xs cells : List X) (j : ℕ) (v : X) → LieWithin rows (length xs) → j < rows.width
+    → cells ≡ paste xs (rows.to * rows.width) (row xs rows.width rows.from) j → v ≡ get_or cells (rows.from * rows.width + j) v
+    → set cells (rows.to * rows.width + j) v ≡ paste xs (rows.to * rows.width) (row xs rows.width rows.from) (j + 1)
+copied_more rows xs cells j v inside hj e read =
+    let n = rows.width in
+    let ys = row xs n rows.from in
+    let len : length ys ≡ n = simp (length-take, length-drop) (omega (arith, inside.from)) in
+    let was : v ≡ get_or xs (rows.from * n + j) v =
+    read ∙ ap (λ zs. get_or zs (rows.from * n + j) v) e
+    ∙ untouched xs ys (rows.to * n) j (rows.from * n + j) v (omega (arith, inside.to)) (omega arith) (apart rows.from rows.to n j hj) in
+    let cell : get_or ys j v ≡ get_or xs (rows.from * n + j) v = search (rules, places) in
+    ap (λ zs. set zs (rows.to * n + j) v) e
+    ∙ ap (set (paste xs (rows.to * n) ys j) (rows.to * n + j)) (was ∙ sym cell)
+    ∙ paste_more xs (rows.to * n) ys j v (omega (arith, inside.to)) (omega arith)
 
 -- A loop over columns that has written f 0, f 1, .. to the first j cells of a row.
 module _ {X : Type 0} (rows : RowPair) (xs cells : List X) (f : ℕ → X) (j : ℕ) (inside : LieWithin rows (length xs)) (hj : j < rows.width) (e : cells ≡ with_cells xs rows f j) where

@@ -109,10 +109,8 @@ impl<T: Copy> Grid<'_, T> {
         ensures cells { self.new.cells.now ≡ (if is_ok result then with_row self.old.cells.now self.old.width to (row_of self.old.cells.now self.old.width from) else self.old.cells.now) }
         ensures memory { SameMemory self.old self.new }
     {
-        let read = self.start_of(from)?;
-        let written = self.start_of(to)?;
-        let end = read + self.width;
-        self.cells.copy_within(read..end, written);
+        let rows = self.row_pair(from, to)?;
+        copy(self.cells, rows);
         Ok(())
     }
 
@@ -152,5 +150,17 @@ fn fill<T: Copy>(part: &mut [T], v: T)
 {
     for cell in part.iter_mut() {
         *cell = v;
+    }
+}
+
+// Copies the cells of the row that is read to the row that is written. A loop, since both rows lie in one lent slice and a rule of the
+// project asks that each cell of the other row be taken out by value first.
+fn copy<T: Copy>(cells: &mut [T], rows: RowPair)
+    requires { LieWithin rows (length cells.old) }
+    ensures { cells.new ≡ with_row cells.old rows.width rows.to (row_of cells.old rows.width rows.from) }
+{
+    for j in 0..rows.width {
+        let v = cells[rows.from * rows.width + j];
+        put(&mut cells[rows.to * rows.width..], j, v);
     }
 }
