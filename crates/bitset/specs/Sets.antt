@@ -1,5 +1,5 @@
 -- Sets of numbers as the bits of a word.
-use Rattle.std.specs.Prelude.{◌≡◌, ℕ, zero, suc, ◌/◌, ◌%◌, ◌^◌, Bool, cond, not, ◌==◌, bit_and, bit_or}
+use Rattle.std.specs.Prelude.{◌≡◌, ℕ, zero, suc, ◌/◌, ◌%◌, ◌^◌, Bool, if◌then◌else◌, not, ◌==◌, bit_and, bit_or}
 
 -- 1 where q is in the set, else 0
 abbrev pub bit : ℕ → ℕ → ℕ
@@ -24,4 +24,4 @@ within a b = bit_and a b == a
 -- the set of the numbers below n of which f is true
 abbrev pub those : (ℕ → Bool) → ℕ → ℕ
 those f zero = 0
-those f (suc n) = cond (f n) (bit_or (those f n) (2 ^ n)) (those f n)
+those f (suc n) = if f n then bit_or (those f n) (2 ^ n) else those f n

@@ -1,5 +1,5 @@
 -- The lines of a report.
-use Rattle.std.specs.Prelude.{ℕ, Bool, cond, List, ◌++◌, codes, decimal}
+use Rattle.std.specs.Prelude.{ℕ, Bool, if◌then◌else◌, List, ◌++◌, codes, decimal}
 use Rattle.measures.specs.Refusals as refusing
 use Rattle.text.specs.Hex.{hex_word}
 use Rattle.chain.specs.declared.lines.Stop.{Stop}
@@ -35,7 +35,7 @@ mark_text position label states = decimal position ++ codes " " ++ decimal label
 
 -- 1 for yes, 0 for no
 abbrev pub bit : Bool → ℕ
-bit b = cond b 1 0
+bit b = if b then 1 else 0
 
 -- what is told at the end: the verdict
 abbrev pub verdict_text : Bool → Bool → List ℕ

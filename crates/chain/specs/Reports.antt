@@ -1,5 +1,5 @@
 -- The report on an input: a pattern, and then the labels of a chain to the end.
-use Rattle.std.specs.Prelude.{ℕ, ◌+◌, ◌*◌, ◌^◌, cond, List, ◌++◌, length, drop, Some, None, codes, Option, nat_le}
+use Rattle.std.specs.Prelude.{ℕ, ◌+◌, ◌*◌, ◌^◌, if◌then◌else◌, List, ◌++◌, length, drop, Some, None, codes, Option, nat_le}
 use Rattle.std.specs.Option.{option_map}
 use Rattle.measures.specs.Acceptance.{state_after, accepts}
 use Rattle.measures.specs.Formats.{states_in, labels_in, pattern_fault}
@@ -14,7 +14,7 @@ chain_start b = 12 + states_in b * labels_in b
 
 -- Why an input has no chain to walk: more than 65,536 bytes, or else a bad pattern.
 abbrev pub stop_on : List ℕ → Option Stop
-stop_on b = cond (nat_le (length b) 65536) (option_map BadPattern (pattern_fault b)) (Some TooLong)
+stop_on b = if nat_le (length b) 65536 then option_map BadPattern (pattern_fault b) else Some TooLong
 
 -- The fault alone, or the header and the walk along the chain: each line has the set of the one state
 -- that the labels so far lead to, and both verdicts say whether the pattern accepts the chain.

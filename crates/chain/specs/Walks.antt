@@ -1,5 +1,5 @@
 -- The lines of a walk along a chain.
-use Rattle.std.specs.Prelude.{ℕ, ◌+◌, Bool, cond, List, [], ◌∷◌, ◌++◌, length, take, ◌==◌, nat_lt}
+use Rattle.std.specs.Prelude.{ℕ, ◌+◌, Bool, if◌then◌else◌, List, [], ◌∷◌, ◌++◌, length, take, ◌==◌, nat_lt}
 use Rattle.std.specs.List.{prefix_len}
 use Rattle.measures.specs.Measures.{Meaning, carried}
 use Rattle.measures.specs.Words.{Word}
@@ -18,7 +18,7 @@ lines set_of done (l ∷ w) = line_of (mark_text (length done + 1) l (set_of (do
 -- The verdict on the word, or the fault of its first label that is not below n, at its byte; the word begins at the byte `from`.
 abbrev pub last_line : (Word → Bool) → (Word → Bool) → ℕ → ℕ → Word → List ℕ
 last_line some all n from w =
-    cond (known n w == length w) (line_of (verdict_text (some w) (all w))) (line_of (fault_text (UnknownLabel (from + known n w))))
+    if known n w == length w then line_of (verdict_text (some w) (all w)) else line_of (fault_text (UnknownLabel (from + known n w)))
 
 -- The lines of the labels that are below n, and the last line.
 abbrev pub walk : (Word → ℕ) → (Word → Bool) → (Word → Bool) → ℕ → ℕ → Word → List ℕ

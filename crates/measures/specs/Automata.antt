@@ -1,5 +1,5 @@
 -- Automata given by a table of next states, and sets of their states.
-use Rattle.std.specs.Prelude.{◌≡◌, ℕ, zero, suc, ◌+◌, ◌*◌, ◌^◌, ◌<◌, cond, List, [], ◌∷◌, bit_or, nat_lt, slice_index}
+use Rattle.std.specs.Prelude.{◌≡◌, ℕ, zero, suc, ◌+◌, ◌*◌, ◌^◌, ◌<◌, if◌then◌else◌, List, [], ◌∷◌, bit_or, nat_lt, slice_index}
 use Rattle.bitset.specs.Sets.{Member, has}
 use Rattle.measures.specs.Words.{Letter, Word}
 use Rattle.measures.specs.Measures.{Meaning}
@@ -16,7 +16,7 @@ leads delta q (l ∷ w) = leads delta (delta l q) w
 -- where the members of a set that are below n go under f
 abbrev pub image : (ℕ → ℕ) → ℕ → ℕ → ℕ
 image f zero set = 0
-image f (suc n) set = cond (has set n) (bit_or (image f n set) (2 ^ f n)) (image f n set)
+image f (suc n) set = if has set n then bit_or (image f n set) (2 ^ f n) else image f n set
 
 -- r holds exactly the numbers to which f takes a member of the set below n
 pub record Image (f : ℕ → ℕ) (n set r : ℕ) : Type 0 where
@@ -28,6 +28,6 @@ abbrev pub state_sets : ℕ → ℕ → ℕ → List ℕ → Meaning ℕ
 state_sets states labels start table = record {
   labels = labels;
   start = 2 ^ start;
-  step = λ set l. cond (nat_lt l labels) (image (next labels table l) states set) set;
+  step = λ set l. if nat_lt l labels then image (next labels table l) states set else set;
   join = bit_or;
 }

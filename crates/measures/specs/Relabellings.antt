@@ -1,11 +1,11 @@
 -- Relabellings.
-use Rattle.std.specs.Prelude.{ℕ, cond, List, map, nat_lt, slice_index}
+use Rattle.std.specs.Prelude.{ℕ, if◌then◌else◌, List, map, nat_lt, slice_index}
 use Rattle.measures.specs.Words.{Letter, Word}
 use Rattle.measures.specs.Measures.{Meaning}
 
 -- the inner label of l: its entry, or 0 where that is none of the n inner labels
 abbrev pub translated_label : List ℕ → ℕ → Letter → Letter
-translated_label entries n l = cond (nat_lt (slice_index entries l) n) (slice_index entries l) 0
+translated_label entries n l = if nat_lt (slice_index entries l) n then slice_index entries l else 0
 
 abbrev pub translated : List ℕ → ℕ → Word → Word
 translated entries n w = map (translated_label entries n) w
@@ -15,6 +15,6 @@ abbrev pub relabelled : {V : Type 0} → List ℕ → ℕ → Meaning V → Mean
 relabelled entries count m = record {
   labels = count;
   start = m.start;
-  step = λ v l. cond (nat_lt l count) (m.step v (translated_label entries m.labels l)) v;
+  step = λ v l. if nat_lt l count then m.step v (translated_label entries m.labels l) else v;
   join = m.join;
 }

@@ -1,5 +1,5 @@
 -- The span.
-use Rattle.std.specs.Prelude.{ℕ, ◌+◌, ◌<◌, ◌≤◌, min, max, cond, nat_lt}
+use Rattle.std.specs.Prelude.{ℕ, ◌+◌, ◌<◌, ◌≤◌, min, max, if◌then◌else◌, nat_lt}
 use Rattle.std.proofs.Common.{rules}
 use Rattle.measures.specs.declared.spans.Ends.{Ends}
 use Rattle.measures.specs.Measures.{Meaning, Lawful}
@@ -16,7 +16,7 @@ abbrev pub span : ℕ → Meaning Ends
 span n = record {
   labels = n;
   start = ends 0 0;
-  step = λ v l. cond (nat_lt l n) (ends (longer v.shortest) (longer v.longest)) v;
+  step = λ v l. if nat_lt l n then ends (longer v.shortest) (longer v.longest) else v;
   join = λ a b. ends (min a.shortest b.shortest) (max a.longest b.longest);
 }
 

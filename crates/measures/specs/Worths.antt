@@ -1,5 +1,5 @@
 -- What a mark is worth under a measure.
-use Rattle.std.specs.Prelude.{ℕ, zero, suc, cond, Some, None, Option}
+use Rattle.std.specs.Prelude.{ℕ, zero, suc, if◌then◌else◌, Some, None, Option}
 use Rattle.std.specs.Option.{unwrap_or}
 use Rattle.history.specs.Rows.{Cell, Payload}
 use Rattle.history.specs.Runs.{Size}
@@ -16,7 +16,7 @@ module _ {V : Type 0} (m : Meaning V) where
   -- the values of the flagged cells below n, joined in rising order
   abbrev pub gathered : (ℕ → Cell V) → ℕ → Option V
   gathered r zero = None
-  gathered r (suc j) = cond (r j).flag (plus (gathered r j) (Some (r j).value)) (gathered r j)
+  gathered r (suc j) = if (r j).flag then plus (gathered r j) (Some (r j).value) else gathered r j
 
   -- What a mark of unit u with label l is worth: the join of the flagged values, or start if there are none, stepped by the mark's letter.
   abbrev pub worth : ℕ → (ℕ → Cell V) → ℕ → ℕ → V

@@ -1,9 +1,9 @@
 -- Numbers written with hexadecimal digits.
-use Rattle.std.specs.Prelude.{ℕ, zero, suc, ◌+◌, ◌/◌, ◌%◌, ◌^◌, cond, List, [], ◌∷◌, nat_lt}
+use Rattle.std.specs.Prelude.{ℕ, zero, suc, ◌+◌, ◌/◌, ◌%◌, ◌^◌, if◌then◌else◌, List, [], ◌∷◌, nat_lt}
 
 -- the byte of the digit d: 0 to 9, then a to f
 abbrev pub digit_in_hex : ℕ → ℕ
-digit_in_hex d = cond (nat_lt d 10) (48 + d) (87 + d)
+digit_in_hex d = if nat_lt d 10 then 48 + d else 87 + d
 
 -- the last k digits of v, highest first
 abbrev pub hex : ℕ → ℕ → List ℕ
