@@ -1,9 +1,9 @@
 // Patterns from bytes.
-ghost use Rattle.std.specs.Prelude.{◌≡◌, ◌+◌, ◌*◌, ◌<◌, length, IfOk, Some, None, MatchResult};
+ghost use Rattle.std.specs.Prelude.{◌≡◌, ◌+◌, ◌*◌, IfOk, Some, None, MatchResult};
 ghost use Rattle.bitset.specs.Sets.{meets, within};
 ghost use Rattle.measures.specs.Acceptance.{Recognizes};
 ghost use Rattle.measures.specs.Automata.{state_sets};
-ghost use Rattle.measures.specs.Formats.{head_fault, pattern_fault, little_endian, states_in, labels_in, start_in, finals_in, PatternOf};
+ghost use Rattle.measures.specs.Formats.{head_fault, pattern_fault, states_in, labels_in, start_in, finals_in, PatternOf};
 
 use super::super::refusals::{Fault, Refusal};
 use super::super::sizes::Count;
