@@ -1,5 +1,5 @@
 // The relabelling: any measure, stepped by the labels that a table gives for its own.
-ghost use Rattle.std.specs.Prelude.{◌≡◌, ◌+◌, ◌<◌, ◌≤◌, ◌&&◌, length, Some, None, MatchResult, ◌==◌, nat_lt, slice_index};
+ghost use Rattle.std.specs.Prelude.{◌≡◌, ◌+◌, ◌<◌, ◌≤◌, length, Some, None, MatchResult};
 ghost use Rattle.measures.specs.Formats.{count_fault, relabelling_fault, count_in, entries_in, padded};
 ghost use Rattle.measures.specs.Relabellings.{translated_label, translated, relabelled};
 ghost use Rattle.measures.specs.Translating.{relabelled_lawful};

@@ -1,5 +1,5 @@
 // The span: the numbers of marks of the shortest and of the longest flow, judged by a limit.
-ghost use Rattle.std.specs.Prelude.{◌≡◌, ◌<◌, ◌≤◌, length, Some, None, MatchResult, nat_le};
+ghost use Rattle.std.specs.Prelude.{◌≡◌, ◌≤◌, length, Some, None, MatchResult, nat_le};
 ghost use Rattle.measures.specs.Refusals.{span_refusal};
 ghost use Rattle.measures.specs.Spans.{span, span_lawful};
 

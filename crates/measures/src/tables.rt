@@ -4,13 +4,6 @@ ghost use Rattle.measures.specs.Formats.{first_over, table_fault, padded};
 
 use super::refusals::{Fault, Refusal};
 
-// An input from a byte on; faults in it are told at places of the whole input.
-#[derive(Clone, Copy)]
-pub(crate) struct Rest<'a> {
-    pub(crate) input: &'a [u8],
-    pub(crate) place: usize,
-}
-
 // The first place whose entry is not below the bound, or none where all are.
 // The table is gone through by a loop over its slice with its index, as the rules of the project ask.
 fn first_too_large(table: &[u8], bound: u8) -> Option<usize>
@@ -22,6 +15,13 @@ fn first_too_large(table: &[u8], bound: u8) -> Option<usize>
         }
     }
     None
+}
+
+// An input from a byte on; faults in it are told at places of the whole input.
+#[derive(Clone, Copy)]
+pub(crate) struct Rest<'a> {
+    pub(crate) input: &'a [u8],
+    pub(crate) place: usize,
 }
 
 impl<'a> Rest<'a> {

@@ -1,9 +1,9 @@
 // Patterns from bytes.
-ghost use Rattle.std.specs.Prelude.{◌≡◌, ◌+◌, ◌*◌, ◌<◌, length, IfOk, Some, None, MatchResult};
+ghost use Rattle.std.specs.Prelude.{◌≡◌, ◌+◌, ◌*◌, IfOk, Some, None, MatchResult};
 ghost use Rattle.bitset.specs.Sets.{meets, within};
 ghost use Rattle.measures.specs.Acceptance.{Recognizes};
 ghost use Rattle.measures.specs.Automata.{state_sets};
-ghost use Rattle.measures.specs.Formats.{head_fault, pattern_fault, little_endian, states_in, labels_in, start_in, finals_in, PatternOf};
+ghost use Rattle.measures.specs.Formats.{head_fault, pattern_fault, states_in, labels_in, start_in, finals_in, PatternOf};
 
 use super::super::refusals::{Fault, Refusal};
 use super::super::sizes::Count;
@@ -11,32 +11,34 @@ use super::super::tables::{Rest, with_zeros};
 use super::{Head, Pattern};
 use bitset::is_below;
 
-// The first twelve bytes of a pattern.
-fn read_head(input: &[u8]) -> Result<Head, Fault>
-    ensures { MatchResult result (λ h. (head_fault input.now ≡ None) × (h.states.number ≡ states_in input.now) × (h.labels.number ≡ labels_in input.now) × (h.start ≡ start_in input.now) × (h.finals ≡ finals_in input.now)) (λ f. head_fault input.now ≡ Some f) }
-{
-    let too_short = Fault::at(Refusal::PatternTooShort, input.len());
-    let (first, rest) = input.split_first_chunk::<4>().ok_or(too_short)?;
-    let finals = rest.first_chunk::<8>().ok_or(too_short)?;
-    let [tag, states, labels, start] = *first;
-    if tag != 0x20 {
-        return Err(Fault::at(Refusal::NotAPattern, 0));
+impl Head {
+    // The first twelve bytes of a pattern.
+    fn read(input: &[u8]) -> Result<Head, Fault>
+        ensures { MatchResult result (λ h. (head_fault input.now ≡ None) × (h.states.number ≡ states_in input.now) × (h.labels.number ≡ labels_in input.now) × (h.start ≡ start_in input.now) × (h.finals ≡ finals_in input.now)) (λ f. head_fault input.now ≡ Some f) }
+    {
+        let too_short = Fault::at(Refusal::PatternTooShort, input.len());
+        let (first, rest) = input.split_first_chunk::<4>().ok_or(too_short)?;
+        let finals = rest.first_chunk::<8>().ok_or(too_short)?;
+        let [tag, states, labels, start] = *first;
+        if tag != 0x20 {
+            return Err(Fault::at(Refusal::NotAPattern, 0));
+        }
+        let states = Count::new(states).ok_or(Fault::at(Refusal::StateCount, 1))?;
+        let labels = Count::new(labels).ok_or(Fault::at(Refusal::LabelCount, 2))?;
+        if start >= states.number {
+            return Err(Fault::at(Refusal::StartState, 3));
+        }
+        let finals = u64::from_le_bytes(*finals);
+        if !is_below(finals, states.number) {
+            return Err(Fault::at(Refusal::FinalStates, 4));
+        }
+        Ok(Head {
+            states,
+            labels,
+            start,
+            finals,
+        })
     }
-    let states = Count::new(states).ok_or(Fault::at(Refusal::StateCount, 1))?;
-    let labels = Count::new(labels).ok_or(Fault::at(Refusal::LabelCount, 2))?;
-    if start >= states.number {
-        return Err(Fault::at(Refusal::StartState, 3));
-    }
-    let finals = u64::from_le_bytes(*finals);
-    if !is_below(finals, states.number) {
-        return Err(Fault::at(Refusal::FinalStates, 4));
-    }
-    Ok(Head {
-        states,
-        labels,
-        start,
-        finals,
-    })
 }
 
 impl Pattern {
@@ -45,7 +47,7 @@ impl Pattern {
         ensures answer { MatchResult result (λ p. (pattern_fault input.now ≡ None) × PatternOf input.now p.head.states.number p.head.labels.number p.head.start p.head.finals p.table) (λ f. pattern_fault input.now ≡ Some f) }
         ensures recognizes { IfOk result (λ p. Recognizes input.now (state_sets p.head.states.number p.head.labels.number p.head.start p.table) (λ set. meets set p.head.finals) (λ set. within set p.head.finals)) }
     {
-        let head = read_head(input)?;
+        let head = Head::read(input)?;
         let rest = Rest { input, place: 12 };
         let table = rest.table(head.entries(), head.states.number)?;
         Ok(Pattern {
