@@ -6,7 +6,7 @@ use Rattle.std.proofs.lemmas.List.Sums.{prefix_len-le-length, prefix_len_passes,
 use Rattle.measures.specs.Words.{Letter, Word, Labels}
 use Rattle.chain.specs.declared.lines.Stop.TheVariants.{UnknownLabel}
 use Rattle.chain.specs.Lines.{line_of, mark_text, verdict_text, fault_text}
-use Rattle.chain.specs.Walks.{known, lines, last_line, walk}
+use Rattle.chain.specs.Walks.{known_count, lines, last_line, walk}
 
 -- One more label below n.
 labels_push : (n : ℕ) (w : Word) (l : Letter) → Labels n w → l < n → Labels n (w ++ l ∷ [])
@@ -14,35 +14,35 @@ labels_push n [] l ls h = (h, tt)
 labels_push n (x ∷ w) l ls h = (ls.0, labels_push n w l ls.1 h)
 
 -- The known labels are below n.
-known_labels : (n : ℕ) (w : Word) → Labels n (take (known n w) w)
+known_labels : (n : ℕ) (w : Word) → Labels n (take (known_count n w) w)
 known_labels n [] = tt
 known_labels n (l ∷ w) = go (ltb l n) refl (known_labels n w)
   where
-    go : (t : Bool) → ltb l n ≡ t → Labels n (take (known n w) w) → Labels n (take (cond t (1 + known n w) 0) (l ∷ w))
-    go true e ls = let more : 1 + known n w ≡ suc (known n w) = omega arith in rw more (ltb-true l n e, ls)
+    go : (t : Bool) → ltb l n ≡ t → Labels n (take (known_count n w) w) → Labels n (take (cond t (1 + known_count n w) 0) (l ∷ w))
+    go true e ls = let more : 1 + known_count n w ≡ suc (known_count n w) = omega arith in rw more (ltb-true l n e, ls)
     go false e ls = tt
 
 -- A label below n after i known ones is known too; one that is not ends them; and where no label is left, all are known.
-module _ (n : ℕ) (w : Word) (i : ℕ) (so_far : i ≤ known n w) where
-  pub known_more : i < length w → get_or w i 0 < n → i + 1 ≤ known n w
-  known_more here h = elim (cases_lt i (known n w)) [
+module _ (n : ℕ) (w : Word) (i : ℕ) (so_far : i ≤ known_count n w) where
+  pub known_more : i < length w → get_or w i 0 < n → i + 1 ≤ known_count n w
+  known_more here h = elim (cases_lt i (known_count n w)) [
     | inl more ↦ omega arith
     | inr end ↦
-        let e : known n w ≡ i = omega arith in
+        let e : known_count n w ≡ i = omega arith in
         let stops = prefix_len_stops (λ l. ltb l n) w 0 (omega arith) in
         let passes = lt-ltb (get_or w i 0) n h in
         absurd (cc (rw e at stops, passes))
   ]
 
-  known_stops : n ≤ get_or w i 0 → known n w ≡ i
-  known_stops h = elim (cases_lt i (known n w)) [
+  known_stops : n ≤ get_or w i 0 → known_count n w ≡ i
+  known_stops h = elim (cases_lt i (known_count n w)) [
     | inl more ↦
         let passes = ltb-true (get_or w i 0) n (prefix_len_passes (λ l. ltb l n) w i 0 more) in
         absurd (omega arith)
     | inr end ↦ omega arith
   ]
 
-  known_all : length w ≤ i → known n w ≡ length w
+  known_all : length w ≤ i → known_count n w ≡ length w
   known_all h = omega (arith, prefix_len-le-length (λ l. ltb l n) w)
 
 module _ (f : Word → ℕ) where
@@ -69,12 +69,12 @@ module _ (f : Word → ℕ) where
         ∙ append_assoc base (lines f [] (take i w)) more
         ∙ ap (λ (t : List ℕ). base ++ t) (subst (λ (v : Word). lines f [] (take i w) ++ line_of (mark_text (i + 1) l (f v)) ≡ lines f [] v) (sym (take_more w i 0 here)) (sym push))
 
-    module _ (some all : Word → Bool) (n from : ℕ) (so_far : i ≤ known n w) where
+    module _ (some all : Word → Bool) (n from : ℕ) (so_far : i ≤ known_count n w) where
       pub walk_stops : (after : List ℕ) → i < length w → n ≤ get_or w i 0 → after ≡ out ++ line_of (fault_text (UnknownLabel (from + i))) → after ≡ base ++ walk f some all n from w
       walk_stops after here h line =
           let k = known_stops n w i so_far h in
           let last : last_line some all n from w ≡ line_of (fault_text (UnknownLabel (from + i))) =
-          ap (λ (t : Bool). cond t (line_of (verdict_text (some w) (all w))) (line_of (fault_text (UnknownLabel (from + known n w))))) (ne_eqb (known n w) (length w) (λ e. omega arith))
+          ap (λ (t : Bool). cond t (line_of (verdict_text (some w) (all w))) (line_of (fault_text (UnknownLabel (from + known_count n w))))) (ne_eqb (known_count n w) (length w) (λ e. omega arith))
           ∙ ap (λ (j : ℕ). line_of (fault_text (UnknownLabel (from + j)))) k in
           line
           ∙ ap (λ (t : List ℕ). t ++ line_of (fault_text (UnknownLabel (from + i)))) is
@@ -85,9 +85,9 @@ module _ (f : Word → ℕ) where
       walk_ends after yes_some yes_all h line es ea =
           let whole : take i w ≡ w = take_all i w h in
           let k = known_all n w i so_far h in
-          let all_known : take (known n w) w ≡ w = take_all (known n w) w (omega arith) in
+          let all_known : take (known_count n w) w ≡ w = take_all (known_count n w) w (omega arith) in
           let last : last_line some all n from w ≡ line_of (verdict_text (some w) (all w)) =
-          ap (λ (t : Bool). cond t (line_of (verdict_text (some w) (all w))) (line_of (fault_text (UnknownLabel (from + known n w))))) (eq-eqb (known n w) (length w) k) in
+          ap (λ (t : Bool). cond t (line_of (verdict_text (some w) (all w))) (line_of (fault_text (UnknownLabel (from + known_count n w))))) (eq-eqb (known_count n w) (length w) k) in
           line
           ∙ ap₂ (λ (x y : Bool). out ++ line_of (verdict_text x y)) es ea
           ∙ ap (λ (t : List ℕ). t ++ line_of (verdict_text (some w) (all w))) is
@@ -104,8 +104,8 @@ module _ (n : ℕ) (f g : Word → ℕ) (same : (w : Word) → Labels n w → f 
 
   pub walk_same : (some all yes_some yes_all : Word → Bool) → ((w : Word) → Labels n w → some w ≡ yes_some w) → ((w : Word) → Labels n w → all w ≡ yes_all w) → (from : ℕ) (w : Word) → walk f some all n from w ≡ walk g yes_some yes_all n from w
   walk_same some all yes_some yes_all ss aa from w =
-      ap₂ ◌++◌ (lines_same [] (take (known n w) w) tt (known_labels n w)) (go (eqb (known n w) (length w)) refl)
+      ap₂ ◌++◌ (lines_same [] (take (known_count n w) w) tt (known_labels n w)) (go (eqb (known_count n w) (length w)) refl)
     where
-      go : (t : Bool) → eqb (known n w) (length w) ≡ t → cond t (line_of (verdict_text (some w) (all w))) (line_of (fault_text (UnknownLabel (from + known n w)))) ≡ cond t (line_of (verdict_text (yes_some w) (yes_all w))) (line_of (fault_text (UnknownLabel (from + known n w))))
-      go true e = let ls : Labels n w = subst (Labels n) (take_all (known n w) w (omega (arith, eqb-true (known n w) (length w) e))) (known_labels n w) in ap₂ (λ (x y : Bool). line_of (verdict_text x y)) (ss w ls) (aa w ls)
+      go : (t : Bool) → eqb (known_count n w) (length w) ≡ t → cond t (line_of (verdict_text (some w) (all w))) (line_of (fault_text (UnknownLabel (from + known_count n w)))) ≡ cond t (line_of (verdict_text (yes_some w) (yes_all w))) (line_of (fault_text (UnknownLabel (from + known_count n w))))
+      go true e = let ls : Labels n w = subst (Labels n) (take_all (known_count n w) w (omega (arith, eqb-true (known_count n w) (length w) e))) (known_labels n w) in ap₂ (λ (x y : Bool). line_of (verdict_text x y)) (ss w ls) (aa w ls)
       go false e = refl
