@@ -1,9 +1,8 @@
 -- Stamps decide the causal order of two marks.
-use Rattle.std.proofs.Common.{◌≡◌, ℕ, suc, ◌<◌, ◌≤◌, true, false, ◌&&◌, eqb, leb, ◌⊎◌, ◌↔◌, List, Some, sym, refl, ap, ◌∙◌, subst, subst₂, inl, inr, ⊎_elim, arith}
+use Rattle.std.proofs.Common.{◌≡◌, ℕ, suc, ◌<◌, false, ◌&&◌, eqb, ◌↔◌, List, Some, ap, ◌∙◌, subst, inl, inr, arith}
 use mathlib.Core.Path.{fun_ext}
-use Rattle.std.proofs.lemmas.Bool.{cases_Bool, cond-true, cond-false, and_parts, and_from, eqb-true, eq-eqb, leb-true, leb-false, both_ways}
+use Rattle.std.proofs.lemmas.Bool.{cases_Bool, and_parts, eqb-true}
 use Rattle.history.specs.declared.precedence.Precedence.{Precedence}
-use Rattle.history.specs.declared.precedence.Precedence.TheVariants.{Same, Precedes, Follows, Concurrent}
 use Rattle.history.specs.Events.{Events, Logs, at, mark}
 use Rattle.history.specs.Marks.{IsMark, marks}
 use Rattle.history.specs.HappenedBefore.{Before, chain, Here, UpTo}
@@ -13,7 +12,6 @@ use Rattle.history.specs.Runs.{Size, Call, Run, by_unit}
 use Rattle.history.specs.Board.{run}
 use Rattle.history.specs.Precedence.{Ordered, compared}
 use Rattle.history.specs.Laws.{StampsDecide}
-use Rattle.history.proofs.Counts.{marks_mark}
 use Rattle.history.proofs.Preceding.{before_past}
 use Rattle.history.proofs.Stamps.{mark_numbered, stamp_knows, stamp_own}
 use Rattle.history.proofs.Runs.{sound_run}
@@ -25,66 +23,22 @@ pub record Knows (ev : Events) (u i : ℕ) (stamp : ℕ → ℕ) : Type 0 where
   pub knows : (v p : ℕ) → IsMark ev v p → (marks ev v p < stamp v) ↔ UpTo ev v p u i
   pub own : stamp u ≡ marks ev u (suc i)
 
-module _ (ev : Events) (u i v j : ℕ) (p q : ℕ → ℕ) (mu : IsMark ev u i) (mv : IsMark ev v j) (sp : Knows ev u i p) (sq : Knows ev v j q) where
-  before_le : Before ev u i v j → p u ≤ q u
-  before_le b = let x = (sq.knows u i mu).1 (inr b) in let y = sp.own in let z = marks_mark ev u i mu in omega arith
-
-  le_upto : p u ≤ q u → UpTo ev u i v j
-  le_upto h = (sq.knows u i mu).0 (let y = sp.own in let z = marks_mark ev u i mu in omega arith)
-
-  equal_here : u ≡ v → p u ≡ q u → Here u i v j
-  equal_here e f =
-      let mj : IsMark ev u j = subst (λ (x : ℕ). IsMark ev x j) (sym e) mv in
-      let b : q u ≡ marks ev u (suc j) = subst (λ (x : ℕ). q x ≡ marks ev x (suc j)) (sym e) sq.own in
-      (e, mark_numbered ev u i j mu mj (let a = sp.own in let c = marks_mark ev u i mu in let d = marks_mark ev u j mj in omega arith))
-
-  here_equal : Here u i v j → p u ≡ q u
-  here_equal (e, f) = sp.own ∙ ap (λ (x : ℕ). marks ev u (suc x)) f ∙ ap (λ (x : ℕ). marks ev x (suc j)) e ∙ sym sq.own ∙ ap q (sym e)
-
 -- No two of the four orders hold at once.
 ordered_one : (ev : Events) (u i v j : ℕ) → (Before ev u i u i → ⊥) → (a b : Precedence) → Ordered ev u i v j a → Ordered ev u i v j b → a ≡ b
-ordered_one ev u i v j irr Same Same x y = refl
-ordered_one ev u i v j irr Same Precedes x y = absurd (irr (subst₂ (λ a b. Before ev u i a b) (sym x.0) (sym x.1) y))
-ordered_one ev u i v j irr Same Follows x y = absurd (irr (subst₂ (λ a b. Before ev a b u i) (sym x.0) (sym x.1) y))
-ordered_one ev u i v j irr Same Concurrent x y = absurd (y.0 x)
-ordered_one ev u i v j irr Precedes Same x y = absurd (irr (subst₂ (λ a b. Before ev u i a b) (sym y.0) (sym y.1) x))
-ordered_one ev u i v j irr Precedes Precedes x y = refl
-ordered_one ev u i v j irr Precedes Follows x y = absurd (irr (chain v j x y))
-ordered_one ev u i v j irr Precedes Concurrent x y = absurd (y.1 x)
-ordered_one ev u i v j irr Follows Same x y = absurd (irr (subst₂ (λ a b. Before ev a b u i) (sym y.0) (sym y.1) x))
-ordered_one ev u i v j irr Follows Precedes x y = absurd (irr (chain v j y x))
-ordered_one ev u i v j irr Follows Follows x y = refl
-ordered_one ev u i v j irr Follows Concurrent x y = absurd (y.2 x)
-ordered_one ev u i v j irr Concurrent Same x y = absurd (x.0 y)
-ordered_one ev u i v j irr Concurrent Precedes x y = absurd (x.1 y)
-ordered_one ev u i v j irr Concurrent Follows x y = absurd (x.2 y)
-ordered_one ev u i v j irr Concurrent Concurrent x y = refl
+ordered_one ev u i v j irr a b x y = grind (arith, chain)
 
 module _ (ev : Events) (u i v j : ℕ) (p q : ℕ → ℕ) (mu : IsMark ev u i) (mv : IsMark ev v j) (sp : Knows ev u i p) (sq : Knows ev v j q) where
-  differ : (eqb u v && eqb (p u) (q u)) ≡ false → Here u i v j → ⊥
-  differ t a = both_ways (eqb u v && eqb (p u) (q u)) t (and_from (eqb u v) (eqb (p u) (q u)) (eq-eqb u v a.0) (eq-eqb (p u) (q u) (here_equal ev u i v j p q mu mv sp sq a)))
+  equal_here : u ≡ v → p u ≡ q u → Here u i v j
+  equal_here e f = grind (arith, mark_numbered)
 
-  not_same : (eqb u v && eqb (p u) (q u)) ≡ false → (leb (p u) (q u) ≡ true) ⊎ (leb (p u) (q u) ≡ false) → (leb (q v) (p v) ≡ true) ⊎ (leb (q v) (p v) ≡ false) → Ordered ev u i v j (compared p q u v)
-  not_same t (inl x) y =
-      subst (Ordered ev u i v j) (sym (cond-false _ Same _ t ∙ cond-true _ Precedes _ x))
-      (⊎_elim (λ a. absurd (differ t a)) (λ b. b) (le_upto ev u i v j p q mu mv sp sq (leb-true (p u) (q u) x)))
-  not_same t (inr x) (inl y) =
-      subst (Ordered ev u i v j) (sym (cond-false _ Same _ t ∙ cond-false _ Precedes _ x ∙ cond-true _ Follows Concurrent y))
-      (⊎_elim (λ a. absurd (differ t (sym a.0, sym a.1))) (λ b. b) (le_upto ev v j u i q p mv mu sq sp (leb-true (q v) (p v) y)))
-  not_same t (inr x) (inr y) =
-      subst (Ordered ev u i v j) (sym (cond-false _ Same _ t ∙ cond-false _ Precedes _ x ∙ cond-false _ Follows Concurrent y)) (
-        differ t,
-        (λ b. (let c = before_le ev u i v j p q mu mv sp sq b in let d = leb-false (p u) (q u) x in omega arith)),
-        (λ b. (let c = before_le ev v j u i q p mv mu sq sp b in let d = leb-false (q v) (p v) y in omega arith)),
-      )
+  not_same : (eqb u v && eqb (p u) (q u)) ≡ false → Ordered ev u i v j (compared p q u v)
+  not_same t = grind arith
 
   pub compared_ordered : Ordered ev u i v j (compared p q u v)
   compared_ordered =
       elim (cases_Bool (eqb u v && eqb (p u) (q u))) [
-        | inl t ↦
-            (let (x, y) = and_parts (eqb u v) (eqb (p u) (q u)) t in
-            subst (Ordered ev u i v j) (sym (cond-true _ Same _ t)) (equal_here ev u i v j p q mu mv sp sq (eqb-true u v x) (eqb-true (p u) (q u) y)))
-        | inr t ↦ not_same t (cases_Bool (leb (p u) (q u))) (cases_Bool (leb (q v) (p v)))
+        | inl t ↦ (let (x, y) = and_parts (eqb u v) (eqb (p u) (q u)) t in rw t (equal_here (eqb-true u v x) (eqb-true (p u) (q u) y)))
+        | inr t ↦ not_same t
       ]
 
 module _ (z : Size) (cs : List Call) (ok : Run z cs) where

@@ -1,15 +1,11 @@
 -- Each known mark is a top of what is known, or before one.
-use Rattle.std.proofs.Common.{◌≡◌, ℕ, ◌⊎◌, sym, subst₂, inl, inr, ⊎_elim, arith}
+use Rattle.std.proofs.Common.{ℕ, sym, subst₂, inl, inr, ⊎_elim, arith}
 use Rattle.std.proofs.lemmas.Bool.{cases_lt}
 use Rattle.history.specs.Events.{Events}
 use Rattle.history.specs.Marks.{IsMark, marks}
 use Rattle.history.specs.Rows.{Cell}
-use Rattle.history.proofs.Past.{Past, past_trans}
+use Rattle.history.proofs.Past.{Past, Upto, past_trans}
 use Rattle.history.proofs.Truth.{Places, Either, Closed, Top, Same, Truthful, top_same}
-
--- one place is another, or in its past
-abbrev pub Upto : Events → ℕ → ℕ → ℕ → ℕ → Type 0
-Upto ev v p w q = ((v ≡ w) × (p ≡ q)) ⊎ Past ev v p w q
 
 -- each mark of the set is a top of it, or in the past of one
 abbrev pub Covered : Events → Places → Type 0
@@ -29,13 +25,13 @@ module _ {V : Type 0} (ev : Events) (start : V) (W : ℕ → ℕ → V → Type 
   cover_half A B b cb fb ka kb v p m s = above (ka v p m s)
     where
       both : (w q x y : ℕ) → Top ev A w q → Upto ev v p w q → Top ev B x y → Upto ev w q x y → (w q : ℕ) × Top ev (Either A B) w q × Upto ev v p w q
-      both w q x y t h r (inl e) = (w, q, (t.0, inl t.1, λ z k n. ⊎_elim (t.2 z k n) (λ o g. r.2 z k n o (subst₂ (λ a c. Past ev a c z k) e.0 e.1 g))), h)
-      both w q x y t h r (inr g) = (x, y, (r.0, inr r.1, λ z k n. ⊎_elim (λ o f. t.2 z k n o (past_trans ev g f)) (r.2 z k n)), inr (upto_past ev v p w q x y h g))
+      both w q x y t h r (inl e) = (w, q, grind arith, h)
+      both w q x y t h r (inr g) = (x, y, grind (arith, past_trans), inr (upto_past ev v p w q x y h g))
 
       above : (w q : ℕ) × Top ev A w q × Upto ev v p w q → (w q : ℕ) × Top ev (Either A B) w q × Upto ev v p w q
       above (w, q, t, h) = elim (cases_lt (marks ev w q) (b w).clock) [
         | inl l ↦ (let (x, y, r, g) = kb w q t.0 ((fb w).within q t.0 l) in both w q x y t h r g)
-        | inr l ↦ (w, q, (t.0, inl t.1, λ z k n. ⊎_elim (t.2 z k n) (λ o g. (let i = (fb w).known q t.0 (cb w q z k o g) in omega arith))), h)
+        | inr l ↦ (w, q, grind (arith, (fb w).known q), h)
       ]
 
   pub cover_merge : (A B : Places) (a b : ℕ → Cell V) → Closed ev A → Closed ev B → ((v : ℕ) → Truthful ev start W A v (a v)) → ((v : ℕ) → Truthful ev start W B v (b v)) →

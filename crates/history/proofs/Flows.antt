@@ -1,5 +1,5 @@
 -- Longest flows with the last mark in front.
-use Rattle.std.proofs.Common.{◌≡◌, ℕ, List, [], ◌∷◌, ◌++◌, map, reverse, sym, refl, ap, ◌∙◌, subst}
+use Rattle.std.proofs.Common.{◌≡◌, ℕ, List, [], ◌∷◌, ◌++◌, map, reverse, sym, refl, ap, ◌∙◌, subst, arith}
 use mathlib.Core.List.{reverse_aux, reverse-cons}
 use Rattle.std.proofs.lemmas.List.{reverse-reverse}
 use Rattle.history.specs.Events.{Events}
@@ -22,14 +22,11 @@ flow_end ev u i v j (x ∷ (y ∷ f)) a b = ap (λ (z : Place). z.0) (sym a.0 �
 
 -- one more mark at the end
 pub flow_longer : (ev : Events) (u i v j : ℕ) (f : List Place) → Immediate ev v j u i → Flow ev v j f → Flow ev u i ((u, i) ∷ f)
-flow_longer ev u i v j [] e f = absurd f
-flow_longer ev u i v j (y ∷ []) e f = (refl, subst (λ (z : Place). Immediate ev z.0 z.1 u i) (sym f.0) e, subst (λ (z : Place). Flow ev z.0 z.1 (y ∷ [])) (sym f.0) f)
-flow_longer ev u i v j (y ∷ (x ∷ g)) e f = (refl, subst (λ (z : Place). Immediate ev z.0 z.1 u i) (sym f.0) e, subst (λ (z : Place). Flow ev z.0 z.1 (y ∷ (x ∷ g))) (sym f.0) f)
+flow_longer ev u i v j f e h = grind arith
 
 module _ (ev : Events) where
   opens_push : (f : List Place) (x : Place) → Opens ev f → Opens ev (f ++ (x ∷ []))
-  opens_push [] x o = absurd o
-  opens_push (y ∷ f) x o = o
+  opens_push f x o = grind arith
 
   ends_push : (u i : ℕ) (f : List Place) (x : Place) → x ≡ (u, i) → Ends u i (f ++ (x ∷ []))
   ends_push u i [] x e = e
@@ -38,19 +35,13 @@ module _ (ev : Events) where
 
   linked_push : (u i : ℕ) (f : List Place) (x : Place) → Linked ev f → Ends u i f → Immediate ev u i x.0 x.1 → Linked ev (f ++ (x ∷ []))
   linked_push u i [] x l e h = absurd e
-  linked_push u i (y ∷ []) x l e h = (subst (λ (z : Place). Immediate ev z.0 z.1 x.0 x.1) (sym e) h, tt)
+  linked_push u i (y ∷ []) x l e h = grind arith
   linked_push u i (y ∷ (z ∷ f)) x l e h = (l.0, linked_push u i (z ∷ f) x l.1 e h)
 
   pub flow_longest : (u i : ℕ) (f : List Place) → Flow ev u i f → Longest ev u i (reverse f)
   flow_longest u i [] h = absurd h
-  flow_longest u i (x ∷ []) h = (subst (λ (z : Place). First ev z.0 z.1) (sym h.0) h.1, tt, h.0)
-  flow_longest u i (x ∷ (y ∷ f)) h =
-      let (o, l, e) = flow_longest y.0 y.1 (y ∷ f) h.2 in
-      subst (Longest ev u i) (sym (reverse-cons x (y ∷ f))) (
-        opens_push (reverse (y ∷ f)) x o,
-        linked_push y.0 y.1 (reverse (y ∷ f)) x l e (subst (λ (z : Place). Immediate ev y.0 y.1 z.0 z.1) (sym h.0) h.1),
-        ends_push u i (reverse (y ∷ f)) x h.0,
-      )
+  flow_longest u i (x ∷ []) h = grind arith
+  flow_longest u i (x ∷ (y ∷ f)) h = let (o, l, e) = flow_longest y.0 y.1 (y ∷ f) h.2 in rw reverse-cons (opens_push (reverse (y ∷ f)) x o, linked_push y.0 y.1 (reverse (y ∷ f)) x l e (grind arith), ends_push u i (reverse (y ∷ f)) x h.0)
 
   climb : (u i : ℕ) (done : List Place) (y : Place) (f : List Place) → Flow ev y.0 y.1 (y ∷ done) → Linked ev (y ∷ f) → Ends u i (y ∷ f) → Flow ev u i (reverse_aux f (y ∷ done))
   climb u i done y [] h l e = subst (λ (z : Place). Flow ev z.0 z.1 (y ∷ done)) e h

@@ -1,10 +1,9 @@
 -- What holds of a unit's row after each number of its events.
-use Rattle.std.proofs.Common.{◌≡◌, ℕ, suc, Some, subst, subst₂, inl, inr, ⊎_elim, arith}
-use Rattle.history.specs.Events.{Events, send, receive, mark}
+use Rattle.std.proofs.Common.{◌≡◌, ℕ, suc, ◌⊎◌, Some, inl, inr, ⊎_elim, arith}
+use Rattle.history.specs.Events.{Events, send, receive}
 use Rattle.history.specs.Marks.{marks}
 use Rattle.history.specs.Rows.{Cell}
-use Rattle.history.proofs.Past.{Past, own, got, past_more, past_trans, past_last}
-use Rattle.history.proofs.Places.{send_not_mark, receive_not_mark, send_not_receive, receive_one}
+use Rattle.history.proofs.Past.{Past, Upto, own, got, past_more, past_trans, past_last, past_quiet}
 use Rattle.history.proofs.Truth.{Places, Either, Closed, Same, Truthful}
 use Rattle.history.proofs.Cover.{Covered}
 
@@ -37,17 +36,16 @@ module _ (ev : Events) where
 
   -- a send brings no mark
   pub send_same : (u k m : ℕ) → ev u k ≡ Some (send m) → Same ev (Known ev u k) (Known ev u (suc k))
-  send_same u k m e w p (l, o) = (past_more ev (suc k) (omega arith), λ h. ⊎_elim (λ x. absurd (send_not_mark (ev u k) m l e (subst₂ (λ a b. ev a b ≡ Some (mark l)) x.0 x.1 o))) (⊎_elim (λ x. x) (λ x. absurd (send_not_receive (ev u k) m x.0 e x.3))) (past_last ev h))
+  send_same u k m e w p (l, o) = grind (arith, past_more, past_quiet)
+
+  -- a receipt brings itself and what was known just after the send
+  pub past_receive : Once ev → (u k m w j : ℕ) → ev u k ≡ Some (receive m) → ev w j ≡ Some (send m) → {v p : ℕ} → Past ev v p u (suc k)
+      → Upto ev v p u k ⊎ Past ev v p w (suc j)
+  past_receive once u k m w j e s {v} {p} h = grind (arith, past_last)
 
   -- a receipt brings the marks that the message knows
   pub receive_same : Once ev → (u k m w j : ℕ) → ev u k ≡ Some (receive m) → ev w j ≡ Some (send m) → Same ev (Either (Known ev u k) (Known ev w j)) (Known ev u (suc k))
   receive_same once u k m w j e s v p (l, o) = (
     ⊎_elim (past_more ev (suc k) (omega arith)) (λ x. got k m w j (omega arith) e s (past_more ev (suc j) (omega arith) x)),
-    λ h. ⊎_elim (λ x. absurd (receive_not_mark (ev u k) m l e (subst₂ (λ a b. ev a b ≡ Some (mark l)) x.0 x.1 o))) (⊎_elim inl (λ x. inr (from x))) (past_last ev h),
+    λ h. ⊎_elim (⊎_elim (λ x. (let p = x.0 in let q = x.1 in cc)) inl) (λ x. inr ((send_same w j m s v p (l, o)).1 x)) (past_receive once u k m w j e s h),
   )
-    where
-      from : (m' w' l' : ℕ) × (ev u k ≡ Some (receive m')) × (ev w' l' ≡ Some (send m')) × Past ev v p w' (suc l') → Past ev v p w j
-      from (m', w', l', e', s', h) =
-          let n : m' ≡ m = receive_one (ev u k) m' m e' e in
-          let (a, b) = once m w' l' w j (subst (λ x. ev w' l' ≡ Some (send x)) n s') s in
-          (send_same w j m s v p (l, o)).1 (subst₂ (λ x y. Past ev v p x (suc y)) a b h)

@@ -1,28 +1,17 @@
 -- Each accepted call keeps what a run keeps.
-use Rattle.std.proofs.Common.{◌≡◌, ℕ, ◌<◌, Bool, true, false, cond, length, Some, None, Option, sym, refl, ap, ◌∙◌, subst, subst₂, ⊎_elim, arith}
+use Rattle.std.proofs.Common.{◌≡◌, ℕ, ◌<◌, true, length, Some, None, sym, refl, ◌∙◌, subst, subst₂, ⊎_elim, arith}
 use Rattle.std.specs.Result.{result_unwrap_or}
-use Rattle.std.proofs.lemmas.Bool.{ltb-true}
 use Rattle.history.specs.declared.messages.Post.{Post}
 use Rattle.history.specs.declared.messages.Handling.TheVariants.{Sending, Receiving}
-use Rattle.history.specs.Events.{Event, Logs, at, send, receive, mark, Sent}
+use Rattle.history.specs.Events.{Event, Logs, at, send, receive, mark}
 use Rattle.history.specs.Messages.{moved, refused, Stated}
-use Rattle.history.specs.Refusals.{ask}
 use Rattle.history.specs.Rows.{Payload, put, merge_row, mark_row}
 use Rattle.history.specs.Runs.{Size, grown}
 use Rattle.history.specs.Board.{State, refusal, acted}
 use Rattle.history.proofs.RowOf.{Row, sent, received, marked}
-use Rattle.history.proofs.Places.{send_send, receive_receive, mark_mark, send_receive, receive_send, send_mark, mark_send, receive_mark, mark_receive}
-use Rattle.history.proofs.Logs.{put_same, put_other, put_cases, grown_here, grown_keeps, grown_cases}
-use Rattle.history.proofs.Posts.{may_send, may_receive, stated_other, stated_sent, stated_received}
+use Rattle.history.proofs.Logs.{put_cases, grown_here, grown_keeps, grown_cases}
+use Rattle.history.proofs.Posts.{may_receive, stated_other, stated_sent, stated_received}
 use Rattle.history.proofs.Sound.{Sound, grows, rows_grow, sent_row_grows, unsent_before, once_grows, ranged_grows}
-
--- all questions are answered yes exactly when this one is, and all after it
-pub ask_none : {X : Type 0} (b : Bool) (x : X) (o : Option X) → ask b x o ≡ None → (b ≡ true) × (o ≡ None)
-ask_none true x o e = (refl, e)
-ask_none false x o e = let q : ◌≡◌ {A = ℕ} 0 1 = cc in absurd (omega arith)
-
-pub none_ask : {X : Type 0} (b : Bool) (x : X) (o : Option X) → b ≡ true → o ≡ None → ask b x o ≡ None
-none_ask b x o e f = ap (λ (t : Bool). cond t o (Some x)) e ∙ f
 
 module _ {V : Type 0} (M : Payload V) (z : Size) (s : State V) (logs : Logs) (h : Sound M z s logs) (u : ℕ) (below : u < z.units) where
   -- the states of all messages but m, whose state is q, after one more event
@@ -37,29 +26,19 @@ module _ {V : Type 0} (M : Payload V) (z : Size) (s : State V) (logs : Logs) (h 
   pub sound_send : (m : ℕ) → refused (moved (s.posts m) Sending) ≡ None → Sound M z (acted M z s u (send m)) (grown logs u (send m))
   sound_send m ok = record {
     rows_are = rows_grow M z s logs h u (send m) (s.rows u) (sent (length (logs u)) m refl (grown_here logs u (send m)) (grows M z s logs h u (send m) (h.rows_are u))) s.rows refl (λ w d. refl);
-    sent_row = λ a w j e. ⊎_elim
-        (λ p. own a w j p.0 p.1 e)
-        (λ p. subst (Row M (at (grown logs u (send m))) w j) (sym p.1) (sent_row_grows M z s logs h u (send m) a (λ q. p.0 (sym (send_send m a q))) w j e))
-        (put_cases s.message_rows m (s.rows u) a);
+    sent_row = λ a w j e. grind (arith, now a w j, sent_row_grows M z s logs h u (send m) a);
     unsent_row = λ a n. ⊎_elim
-        (λ p. absurd (n (subst (Sent (at (grown logs u (send m)))) (sym p.0) (u, length (logs u), grown_here logs u (send m)))))
+        (λ p. absurd (n (rw p.0 (u, length (logs u), grown_here logs u (send m)))))
         (λ p. p.1 ∙ h.unsent_row a (unsent_before M z s logs h u (send m) a n))
         (put_cases s.message_rows m (s.rows u) a);
-    posts_are = posts_grow (send m) m (result_unwrap_or (moved (s.posts m) Sending) (s.posts m)) (λ a d. ((λ e. d (sym (send_send m a e))), send_receive m a)) (stated_sent logs u m (s.posts m) ok (h.posts_are m));
-    once = once_grows M z s logs h u (send m) (λ a e. subst (λ (y : ℕ). Sent (at logs) y → ⊥) (send_send m a e) fresh);
-    ranged = ranged_grows M z s logs h u (send m) below (λ l e. absurd (send_mark m l e));
+    posts_are = posts_grow (send m) m (result_unwrap_or (moved (s.posts m) Sending) (s.posts m)) (λ a d. grind arith) (stated_sent logs u m (s.posts m) ok (h.posts_are m));
+    once = once_grows M z s logs h u (send m) (λ a e. grind arith);
+    ranged = ranged_grows M z s logs h u (send m) below (λ l e. cc);
   }
     where
-      fresh : Sent (at logs) m → ⊥
-      fresh = (may_send (at logs) m (s.posts m) (h.posts_are m)).0 ok
-
       -- the message that is sent now takes the sender's row
-      own : (a w j : ℕ) → a ≡ m → put s.message_rows m (s.rows u) a ≡ s.rows u → at (grown logs u (send m)) w j ≡ Some (send a) → Row M (at (grown logs u (send m))) w j (put s.message_rows m (s.rows u) a)
-      own a w j e f p =
-          ⊎_elim
-          (λ q. subst (Row M (at (grown logs u (send m))) w j) (sym f) (subst₂ (λ b c. Row M (at (grown logs u (send m))) b c (s.rows u)) (sym q.0) (sym q.1) (grows M z s logs h u (send m) (h.rows_are u))))
-          (λ q. absurd (fresh (w, j, subst (λ (y : ℕ). at logs w j ≡ Some (send y)) e q)))
-          (grown_cases logs u (send m) w j (send a) p)
+      now : (a w j : ℕ) → a ≡ m → at (grown logs u (send m)) w j ≡ Some (send a) → Row M (at (grown logs u (send m))) w j (s.rows u)
+      now a w j e p = grind (arith, grown_cases logs u (send m) w j (send a), grows M z s logs h u (send m) (h.rows_are u))
 
   pub sound_receive : (m : ℕ) → refused (moved (s.posts m) Receiving) ≡ None → Sound M z (acted M z s u (receive m)) (grown logs u (receive m))
   sound_receive m ok = record {
@@ -68,12 +47,12 @@ module _ {V : Type 0} (M : Payload V) (z : Size) (s : State V) (logs : Logs) (h 
         rows_grow M z s logs h u (receive m) (merge_row M.start (s.rows u) (s.message_rows m))
         (received (length (logs u)) m w j (s.rows u) (s.message_rows m) refl (grown_here logs u (receive m)) (grown_keeps logs u (receive m) w j (send m) e)
         (grows M z s logs h u (receive m) (h.rows_are u)) (grows M z s logs h u (receive m) (h.sent_row m w j e)) refl)
-        (put s.rows u (merge_row M.start (s.rows u) (s.message_rows m))) (put_same s.rows u _) (put_other s.rows u _));
-    sent_row = λ a. sent_row_grows M z s logs h u (receive m) a (receive_send m a);
+        (put s.rows u (merge_row M.start (s.rows u) (s.message_rows m))) (grind arith) (λ w d. grind arith));
+    sent_row = λ a. sent_row_grows M z s logs h u (receive m) a (λ e. cc);
     unsent_row = λ a n. h.unsent_row a (unsent_before M z s logs h u (receive m) a n);
-    posts_are = posts_grow (receive m) m (result_unwrap_or (moved (s.posts m) Receiving) (s.posts m)) (λ a d. (receive_send m a, λ e. d (sym (receive_receive m a e)))) (stated_received logs u m (s.posts m) ok (h.posts_are m));
-    once = once_grows M z s logs h u (receive m) (λ a e. absurd (receive_send m a e));
-    ranged = ranged_grows M z s logs h u (receive m) below (λ l e. absurd (receive_mark m l e));
+    posts_are = posts_grow (receive m) m (result_unwrap_or (moved (s.posts m) Receiving) (s.posts m)) (λ a d. grind arith) (stated_received logs u m (s.posts m) ok (h.posts_are m));
+    once = once_grows M z s logs h u (receive m) (λ a e. cc);
+    ranged = ranged_grows M z s logs h u (receive m) below (λ l e. cc);
   }
 
   pub sound_mark : (l : ℕ) → z.fits u l ≡ true → Sound M z (acted M z s u (mark l)) (grown logs u (mark l))
@@ -81,25 +60,16 @@ module _ {V : Type 0} (M : Payload V) (z : Size) (s : State V) (logs : Logs) (h 
     rows_are =
         rows_grow M z s logs h u (mark l) (mark_row M u l (s.rows u))
         (marked (length (logs u)) l (s.rows u) refl (grown_here logs u (mark l)) (grows M z s logs h u (mark l) (h.rows_are u)) refl)
-        (put s.rows u (mark_row M u l (s.rows u))) (put_same s.rows u _) (put_other s.rows u _);
-    sent_row = λ a. sent_row_grows M z s logs h u (mark l) a (mark_send l a);
+        (put s.rows u (mark_row M u l (s.rows u))) (grind arith) (λ w d. grind arith);
+    sent_row = λ a. sent_row_grows M z s logs h u (mark l) a (λ e. cc);
     unsent_row = λ a n. h.unsent_row a (unsent_before M z s logs h u (mark l) a n);
-    posts_are = λ a. stated_other logs u (mark l) a (s.posts a) (mark_send l a) (mark_receive l a) (h.posts_are a);
-    once = once_grows M z s logs h u (mark l) (λ a e. absurd (mark_send l a e));
-    ranged = ranged_grows M z s logs h u (mark l) below (λ a e. subst (λ (y : ℕ). z.fits u y ≡ true) (mark_mark l a e) fits);
+    posts_are = λ a. stated_other logs u (mark l) a (s.posts a) (λ e. cc) (λ e. cc) (h.posts_are a);
+    once = once_grows M z s logs h u (mark l) (λ a e. cc);
+    ranged = ranged_grows M z s logs h u (mark l) below (λ a e. grind arith);
   }
 
 module _ {V : Type 0} (M : Payload V) (z : Size) where
   pub sound_accepted : (s : State V) (logs : Logs) → Sound M z s logs → (u : ℕ) (e : Event) → refusal M z s u e ≡ None → Sound M z (acted M z s u e) (grown logs u e)
-  sound_accepted s logs h u (send m) p =
-      let (a, q) = ask_none _ _ _ p in
-      let (b, t) = ask_none _ _ _ q in
-      sound_send M z s logs h u (ltb-true _ _ a) m t
-  sound_accepted s logs h u (receive m) p =
-      let (a, q) = ask_none _ _ _ p in
-      let (b, t) = ask_none _ _ _ q in
-      sound_receive M z s logs h u (ltb-true _ _ a) m t
-  sound_accepted s logs h u (mark l) p =
-      let (a, q) = ask_none _ _ _ p in
-      let (b, t) = ask_none _ _ _ q in
-      sound_mark M z s logs h u (ltb-true _ _ a) l b
+  sound_accepted s logs h u (send m) p = sound_send M z s logs h u (grind arith) m (grind arith)
+  sound_accepted s logs h u (receive m) p = sound_receive M z s logs h u (grind arith) m (grind arith)
+  sound_accepted s logs h u (mark l) p = sound_mark M z s logs h u (grind arith) l (grind arith)

@@ -1,7 +1,6 @@
 pub mod Accepting
-pub mod Answers
+pub mod Answering
 pub mod Bare
-pub mod Cells
 pub mod Compare
 pub mod Counts
 pub mod Cover
@@ -13,7 +12,6 @@ pub mod Logs
 pub mod Marking
 pub mod OrderFree
 pub mod Past
-pub mod Places
 pub mod Posts
 pub mod Preceding
 pub mod RowOf

@@ -5,8 +5,7 @@ use Rattle.history.specs.Counting.{Among, Distinct, Exactly, HowMany}
 module _ {A : Type 0} where
   pub among_left : (a : A) (s t : List A) → Among a s → Among a (s ++ t)
   among_left a [] t m = absurd m
-  among_left a (x ∷ s) t (inl e) = inl e
-  among_left a (x ∷ s) t (inr m) = inr (among_left a s t m)
+  among_left a (x ∷ s) t m = grind (arith, among_left a s t)
 
   pub among_right : (a : A) (s t : List A) → Among a t → Among a (s ++ t)
   among_right a [] t m = m
@@ -14,12 +13,11 @@ module _ {A : Type 0} where
 
   pub among_cases : (a : A) (s t : List A) → Among a (s ++ t) → Among a s ⊎ Among a t
   among_cases a [] t m = inr m
-  among_cases a (x ∷ s) t (inl e) = inl (inl e)
-  among_cases a (x ∷ s) t (inr m) = ⊎_elim (λ h. inl (inr h)) inr (among_cases a s t m)
+  among_cases a (x ∷ s) t m = grind (arith, among_cases a s t)
 
   pub distinct_append : (s t : List A) → Distinct s → Distinct t → ((a : A) → Among a s → Among a t → ⊥) → Distinct (s ++ t)
   distinct_append [] t ds dt apart = dt
-  distinct_append (x ∷ s) t ds dt apart = ((λ m. ⊎_elim ds.0 (apart x (inl refl)) (among_cases x s t m)), distinct_append s t ds.1 dt (λ a m. apart a (inr m)))
+  distinct_append (x ∷ s) t ds dt apart = (grind (arith, among_cases x s t, apart x), distinct_append s t ds.1 dt (λ a m. apart a (inr m)))
 
   -- a member in the middle of a list
   pub among_split : (a : A) (l : List A) → Among a l → (s t : List A) × (l ≡ s ++ (a ∷ t))
@@ -28,16 +26,14 @@ module _ {A : Type 0} where
   among_split a (x ∷ l) (inr m) = let (s, t, e) = among_split a l m in (x ∷ s, t, ap (λ (y : List A). x ∷ y) e)
 
   pub among_around : (a b : A) (s t : List A) → Among b (s ++ (a ∷ t)) → (b ≡ a) ⊎ Among b (s ++ t)
-  among_around a b s t m = ⊎_elim (λ h. inr (among_left b s t h)) (λ h. ⊎_elim inl (λ g. inr (among_right b s t g)) h) (among_cases b s (a ∷ t) m)
+  among_around a b s t m = grind (arith, among_cases b s (a ∷ t), among_left b s t, among_right b s t)
 
   pub around_among : (a b : A) (s t : List A) → Among b (s ++ t) → Among b (s ++ (a ∷ t))
-  around_among a b s t m = ⊎_elim (λ h. among_left b s (a ∷ t) h) (λ h. among_right b s (a ∷ t) (inr h)) (among_cases b s t m)
+  around_among a b s t m = grind (arith, among_cases b s t, among_left b s (a ∷ t), among_right b s (a ∷ t))
 
   pub distinct_around : (a : A) (s t : List A) → Distinct (s ++ (a ∷ t)) → Distinct (s ++ t) × (Among a (s ++ t) → ⊥)
   distinct_around a [] t d = (d.1, d.0)
-  distinct_around a (x ∷ s) t d =
-      let (e, f) = distinct_around a s t d.1 in
-      (((λ m. d.0 (around_among a x s t m)), e), λ m. ⊎_elim (λ h. d.0 (subst (λ (y : A). Among y (s ++ (a ∷ t))) h (among_right a s (a ∷ t) (inl refl)))) f m)
+  distinct_around a (x ∷ s) t d = let (e, f) = distinct_around a s t d.1 in ((λ m. d.0 (around_among a x s t m), e), λ m. grind (arith, among_right a s (a ∷ t)))
 
   -- Two lists that hold the same, each thing once, are the same up to order: what is taken from both in turn agrees.
   pub same_by_members : (F : List A → List A → Type 0) → F [] []
@@ -54,7 +50,7 @@ module _ {A : Type 0} where
 
   pub exactly_same : (F : List A → List A → Type 0) → F [] [] → ((a : A) (l s t : List A) → F l (s ++ t) → F (a ∷ l) (s ++ (a ∷ t)))
       → {P : A → Type 0} (k l : List A) → Exactly P k → Exactly P l → F k l
-  exactly_same F none more k l a b = same_by_members F none more k l a.once b.once (λ x m. b.complete x (a.sound x m)) (λ x m. a.complete x (b.sound x m))
+  exactly_same F none more k l a b = grind (arith, same_by_members)
 
   -- there is one number of things of which P is true
   pub how_many_one : {P : A → Type 0} (m n : ℕ) → HowMany P m → HowMany P n → m ≡ n
@@ -66,13 +62,12 @@ module _ {A : Type 0} where
       ∙ f
 
   pub exactly_like : {P Q : A → Type 0} → ((a : A) → P a → Q a) → ((a : A) → Q a → P a) → (l : List A) → Exactly P l → Exactly Q l
-  exactly_like to from l e = record { sound = λ a m. to a (e.sound a m); complete = λ a q. e.complete a (from a q); once = e.once }
+  exactly_like to from l e = grind arith
 
 module _ {A B : Type 0} (f : A → B) where
   pub among_map : (a : A) (l : List A) → Among a l → Among (f a) (map f l)
   among_map a [] m = absurd m
-  among_map a (x ∷ l) (inl e) = inl (ap f e)
-  among_map a (x ∷ l) (inr m) = inr (among_map a l m)
+  among_map a (x ∷ l) m = grind (arith, among_map a l)
 
   pub among_unmap : (b : B) (l : List A) → Among b (map f l) → (a : A) × Among a l × (b ≡ f a)
   among_unmap b [] m = absurd m
@@ -81,4 +76,4 @@ module _ {A B : Type 0} (f : A → B) where
 
   pub distinct_map : ((a b : A) → f a ≡ f b → a ≡ b) → (l : List A) → Distinct l → Distinct (map f l)
   distinct_map inj [] d = tt
-  distinct_map inj (x ∷ l) d = ((λ m. (let (a, h, e) = among_unmap (f x) l m in d.0 (subst (λ (z : A). Among z l) (sym (inj x a e)) h))), distinct_map inj l d.1)
+  distinct_map inj (x ∷ l) d = (grind (arith, among_unmap (f x) l), distinct_map inj l d.1)

@@ -1,6 +1,5 @@
 -- The clocks just after a mark are its stamp.
-use Rattle.std.proofs.Common.{◌≡◌, ℕ, zero, suc, ◌<◌, ◌↔◌, [], ◌∷◌, Some, sym, refl, ap, ◌∙◌, subst, inl, inr, ⊎_elim, arith}
-use Rattle.std.proofs.lemmas.Bool.{cases_eq, cases_order}
+use Rattle.std.proofs.Common.{◌≡◌, ℕ, zero, suc, ◌<◌, ◌↔◌, [], ◌∷◌, Some, refl, ap, ◌∙◌, arith}
 use Rattle.history.specs.Events.{Events, mark}
 use Rattle.history.specs.Marks.{IsMark, marks}
 use Rattle.history.specs.HappenedBefore.{UpTo}
@@ -8,22 +7,16 @@ use Rattle.history.specs.Counting.{HowMany}
 use Rattle.history.specs.Stamps.{Stamp}
 use Rattle.history.specs.Rows.{Payload, Cell}
 use Rattle.history.proofs.RowOf.{Row}
-use Rattle.history.proofs.Places.{receive_not_mark}
 use Rattle.history.proofs.Counts.{marks_strict}
-use Rattle.history.proofs.Past.{own, past_more, past_last}
+use Rattle.history.proofs.Past.{own, past_more, past_quiet}
 use Rattle.history.proofs.Holds.{Once}
-use Rattle.history.proofs.Preceding.{before_past, past_before, stands}
+use Rattle.history.proofs.Preceding.{before_past, past_before}
 use Rattle.history.proofs.Lists.{exactly_like, how_many_one}
 use Rattle.history.proofs.Accepting.{rows_true}
 
 -- marks of one unit with the same number are one
 pub mark_numbered : (ev : Events) (v p q : ℕ) → IsMark ev v p → IsMark ev v q → marks ev v p ≡ marks ev v q → p ≡ q
-mark_numbered ev v p q a b e =
-    elim (cases_order p q) [
-      | inl x ↦ x
-      | inr (inl x) ↦ (let y = marks_strict ev v p q a x in absurd (omega arith))
-      | inr (inr x) ↦ (let y = marks_strict ev v q p b x in absurd (omega arith))
-    ]
+mark_numbered ev v p q a b e = grind (arith, marks_strict)
 
 -- if each number below n is that of a mark of v, these are n marks
 numbered : (ev : Events) (v n : ℕ) → ((k : ℕ) → k < n → (p : ℕ) × IsMark ev v p × (marks ev v p ≡ k)) → HowMany (λ p. IsMark ev v p × (marks ev v p < n)) n
@@ -31,31 +24,15 @@ numbered ev v zero there = ([], record { sound = λ p m. absurd m; complete = λ
 numbered ev v (suc n) there = more (there n (omega arith)) (numbered ev v n (λ k h. there k (omega arith)))
   where
     more : (p : ℕ) × IsMark ev v p × (marks ev v p ≡ n) → HowMany (λ p. IsMark ev v p × (marks ev v p < n)) n → HowMany (λ p. IsMark ev v p × (marks ev v p < suc n)) (suc n)
-    more (p, m, e) (l, x, f) = (
-      p ∷ l,
-      record {
-        sound = λ q. ⊎_elim
-            (λ d. subst (λ (y : ℕ). IsMark ev v y × (marks ev v y < suc n)) (sym d) (m, omega arith))
-            (λ d. ((x.sound q d).0, (let b = (x.sound q d).1 in omega arith)));
-        complete = λ q h. elim (cases_eq (marks ev v q) n) [
-          | inl d ↦ inl (mark_numbered ev v q p h.0 m (d ∙ sym e))
-          | inr d ↦ inr (x.complete q (h.0, (let b = h.1 in omega arith)))
-        ];
-        once = ((λ d. (let b = (x.sound p d).1 in omega arith)), x.once);
-      },
-      ap suc f,
-    )
+    more (p, m, e) (l, x, f) = (p ∷ l, record { sound = λ q i. grind (arith, x.sound q); complete = λ q h. grind (arith, x.complete q, mark_numbered ev v q p); once = (λ d. grind (arith, x.sound p), x.once) }, ap suc f)
 
 module _ {V : Type 0} (M : Payload V) (ev : Events) (once : Once ev) (u i l : ℕ) (e : ev u i ≡ Some (mark l)) (t : ℕ → Cell V) (d : Row M ev u (suc i) t) where
   -- a mark is known just after the mark (u, i) exactly when it is this mark or before it
   known_upto : (v p : ℕ) → IsMark ev v p → marks ev v p < (t v).clock → UpTo ev v p u i
-  known_upto v p m h =
-      ⊎_elim inl (⊎_elim (λ x. inr (past_before ev v p u i (stands ev v p m) (mark l, e) x)) (λ x. absurd (receive_not_mark (ev u i) x.0 l x.3 e)))
-      (past_last ev (((rows_true M ev once d).cells v).within p m h))
+  known_upto v p m h = grind (arith, past_before, past_quiet, rows_true)
 
   upto_known : (v p : ℕ) → IsMark ev v p → UpTo ev v p u i → marks ev v p < (t v).clock
-  upto_known v p m h =
-      ((rows_true M ev once d).cells v).known p m (⊎_elim (λ x. own (sym x.0) (omega arith)) (λ x. past_more ev (suc i) (omega arith) (before_past ev v p u i (l, e) x)) h)
+  upto_known v p m h = ((rows_true M ev once d).cells v).known p m (grind (arith, own, past_more, before_past))
 
   pub clocks_stamp : Stamp ev u i (λ v. (t v).clock)
   clocks_stamp v =
@@ -68,7 +45,7 @@ module _ {V : Type 0} (M : Payload V) (ev : Events) (once : Once ev) (u i l : �
     stamp_clock v = how_many_one (stamp v) (t v).clock (is v) (clocks_stamp v)
 
     pub stamp_knows : (v p : ℕ) → IsMark ev v p → (marks ev v p < stamp v) ↔ UpTo ev v p u i
-    stamp_knows v p m = ((λ h. known_upto v p m (subst (λ (k : ℕ). marks ev v p < k) (stamp_clock v) h)), λ h. subst (λ (k : ℕ). marks ev v p < k) (sym (stamp_clock v)) (upto_known v p m h))
+    stamp_knows v p m = grind (arith, known_upto, stamp_clock, upto_known)
 
     pub stamp_own : stamp u ≡ marks ev u (suc i)
     stamp_own = stamp_clock u ∙ (rows_true M ev once d).mine

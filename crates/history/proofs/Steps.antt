@@ -1,72 +1,40 @@
 -- Each event keeps what holds of a unit's row.
-use Rattle.std.proofs.Common.{◌≡◌, ℕ, suc, ◌≤◌, Some, Option, refl, ap, subst, subst₂, inl, inr, ⊎_elim, arith}
-use Rattle.std.proofs.lemmas.Bool.{cases_lt, cases_order, false≢true}
-use Rattle.history.specs.Events.{Event, Events, send, receive, mark}
+use Rattle.std.proofs.Common.{◌≡◌, ℕ, suc, ◌≤◌, Some, refl, inl, inr, ⊎_elim, arith}
+use Rattle.std.proofs.lemmas.Bool.{cases_lt}
+use Rattle.history.specs.Events.{Events, send, receive}
 use Rattle.history.specs.Marks.{IsMark, marks}
-use Rattle.history.specs.Rows.{Payload, Cell, merged_cell, merge_row, new_row}
-use Rattle.history.proofs.Cells.{merge_smaller, merge_equal}
-use Rattle.history.proofs.Past.{Past, own, got, past_down, past_through, past_last}
-use Rattle.history.proofs.Places.{receive_not_mark, send_not_receive, receive_one}
+use Rattle.history.specs.Rows.{Payload, Cell, merge_row, new_row}
+use Rattle.history.proofs.Past.{Past, own, got, past_down, past_through, past_quiet}
 use Rattle.history.proofs.Counts.{marks_strict}
 use Rattle.history.proofs.Truth.{Either, truthful_same, truthful_merge}
 use Rattle.history.proofs.Cover.{cover_same, cover_merge}
-use Rattle.history.proofs.Holds.{Known, Once, Holds, known_closed, nothing, send_same, receive_same}
-
-mark_not_receive : (o : Option Event) (l m : ℕ) → o ≡ Some (mark l) → o ≡ Some (receive m) → ⊥
-mark_not_receive o l m p q = receive_not_mark o m l q p
+use Rattle.history.proofs.Holds.{Known, Once, Holds, known_closed, nothing, past_receive, send_same, receive_same}
 
 module _ (ev : Events) where
   -- an event that is no receipt closes no circle
   pub quiet_apart : (u k : ℕ) → ((m : ℕ) → ev u k ≡ Some (receive m) → ⊥) → (Past ev u k u k → ⊥) → Past ev u (suc k) u (suc k) → ⊥
-  quiet_apart u k q a h = ⊎_elim (λ x. (let y = x.1 in omega arith)) (⊎_elim (λ x. a (past_down ev k (omega arith) x)) (λ x. q x.0 x.3)) (past_last ev h)
+  quiet_apart u k q a h = grind (arith, past_down, past_quiet)
 
   -- a receipt is not in the past of its send
   pub receive_after : (u k m w j : ℕ) → ev u k ≡ Some (receive m) → ev w j ≡ Some (send m) → (Past ev w j w j → ⊥) → Past ev u k w j → ⊥
   receive_after u k m w j e s a h = a (past_through ev (got k m w j (omega arith) e s (own refl (omega arith))) h)
 
   receive_apart : Once ev → (u k m w j : ℕ) → ev u k ≡ Some (receive m) → ev w j ≡ Some (send m) → (Past ev u k u k → ⊥) → (Past ev w j w j → ⊥) → Past ev u (suc k) u (suc k) → ⊥
-  receive_apart once u k m w j e s a b h = ⊎_elim (λ x. (let y = x.1 in omega arith)) (⊎_elim (λ x. a (past_down ev k (omega arith) x)) from) (past_last ev h)
+  receive_apart once u k m w j e s a b h = ⊎_elim (⊎_elim (λ x. (let y = x.1 in omega arith)) (λ x. a (past_down ev k (omega arith) x))) from (past_receive ev once u k m w j e s h)
     where
-      link : Past ev w j u (suc k)
-      link = got k m w j (omega arith) e s (own refl (omega arith))
-
-      from : (m' w' l' : ℕ) × (ev u k ≡ Some (receive m')) × (ev w' l' ≡ Some (send m')) × Past ev u (suc k) w' (suc l') → ⊥
-      from (m', w', l', e', s', g) =
-          let n : m' ≡ m = receive_one (ev u k) m' m e' e in
-          let (c, d) = once m w' l' w j (subst (λ x. ev w' l' ≡ Some (send x)) n s') s in
-          let g' : Past ev u (suc k) w (suc j) = subst₂ (λ x y. Past ev u (suc k) x (suc y)) c d g in
-          ⊎_elim (λ x. b (subst₂ (λ y z. Past ev w j y z) x.0 x.1 link)) (⊎_elim (λ x. receive_after u k m w j e s b (past_down ev k (omega arith) x)) (λ x. send_not_receive (ev w j) m x.0 s x.3)) (past_last ev g')
-
--- a message that knows no more leaves the clock
-merge_mine : {V : Type 0} (M : Payload V) (a b : Cell V) → b.clock ≤ a.clock → (merged_cell M.start a b).clock ≡ a.clock
-merge_mine M a b h = elim (cases_order a.clock b.clock) [
-  | inl e ↦ ap (λ (c : Cell _). c.clock) (merge_equal M.start a b e)
-  | inr (inl g) ↦ absurd (omega arith)
-  | inr (inr g) ↦ ap (λ (c : Cell _). c.clock) (merge_smaller M.start a b g)
-]
+      from : Past ev u (suc k) w (suc j) → ⊥
+      from g = (let link : Past ev w j u (suc k) = got k m w j (omega arith) e s (own refl (omega arith)) in grind (arith, past_quiet, past_down, receive_after))
 
 module _ {V : Type 0} (ev : Events) (M : Payload V) (W : ℕ → ℕ → V → Type 0) where
   pub holds_new : (u : ℕ) → Holds ev M.start W u 0 (new_row M.start)
-  holds_new u = record {
-    cells = λ v. record {
-      known = λ p m h. absurd (nothing ev v p u h);
-      within = λ p m h. absurd (omega arith);
-      there = λ k h. absurd (omega arith);
-      top = λ e. absurd (false≢true e);
-      low = λ e p t. nothing ev v p u t.1;
-      blank = λ e. refl;
-    };
-    cover = λ v p m h. absurd (nothing ev v p u h);
-    mine = refl;
-    apart = nothing ev u 0 u;
-  }
+  holds_new u = grind (arith, nothing)
 
   pub holds_send : (u k m : ℕ) (r : ℕ → Cell V) → ev u k ≡ Some (send m) → Holds ev M.start W u k r → Holds ev M.start W u (suc k) r
   holds_send u k m r e h = record {
     cells = λ v. truthful_same ev M W (Known ev u k) (Known ev u (suc k)) (send_same ev u k m e) v (r v) (h.cells v);
     cover = cover_same ev (Known ev u k) (Known ev u (suc k)) (send_same ev u k m e) h.cover;
     mine = let i = h.mine in rw e (omega arith);
-    apart = quiet_apart ev u k (λ m'. send_not_receive (ev u k) m m' e) h.apart;
+    apart = quiet_apart ev u k (λ m' x. cc) h.apart;
   }
 
   pub holds_receive : Once ev → (u k m w j : ℕ) (p q : ℕ → Cell V) → ev u k ≡ Some (receive m) → ev w j ≡ Some (send m) →
@@ -76,7 +44,7 @@ module _ {V : Type 0} (ev : Events) (M : Payload V) (W : ℕ → ℕ → V → T
         (truthful_merge ev M W (Known ev u k) (Known ev w j) v (p v) (q v) (known_closed ev u k) (known_closed ev w j) (h.cells v) (g.cells v));
     cover = cover_same ev (Either (Known ev u k) (Known ev w j)) (Known ev u (suc k)) (receive_same ev once u k m w j e s)
         (cover_merge ev M.start W (Known ev u k) (Known ev w j) p q (known_closed ev u k) (known_closed ev w j) h.cells g.cells h.cover g.cover);
-    mine = let i = h.mine in let y = merge_mine M (p u) (q u) less in rw e (omega arith);
+    mine = let i = h.mine in let y = less in rw e (grind arith);
     apart = receive_apart ev once u k m w j e s h.apart g.apart;
   }
     where

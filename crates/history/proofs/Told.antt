@@ -1,7 +1,8 @@
 -- What the units were told is what their rows say.
-use Rattle.std.proofs.Common.{◌≡◌, ℕ, suc, ◌<◌, List, length, Some, None, sym, refl, ap, ◌∙◌, subst, ap₂, inl, inr, ⊎_elim, arith}
+use Rattle.std.proofs.Common.{◌≡◌, ℕ, suc, ◌<◌, List, length, get_or, Some, None, sym, ◌∙◌, subst, ap₂, inl, inr, ⊎_elim, arith}
 use Rattle.std.specs.List.{slice_get}
-use Rattle.std.proofs.lemmas.Bool.{cases_eq}
+use Rattle.std.proofs.lemmas.List.{same_lists}
+use Rattle.std.proofs.lemmas.Option.{slice_get_cases, get_or_from_slice_get}
 use Rattle.history.specs.Events.{Event, Logs, at}
 use Rattle.history.specs.Rows.{Payload, Cell}
 use Rattle.history.specs.Runs.{Size, Call, silence, grown}
@@ -9,7 +10,7 @@ use Rattle.history.specs.Board.{Reply, History, new_history, refusal, acted, rep
 use Rattle.history.proofs.RowOf.{Row}
 use Rattle.history.proofs.Holds.{Once}
 use Rattle.history.proofs.Unique.{row_one}
-use Rattle.history.proofs.Logs.{grown_length, grown_other, grown_here, grown_keeps, grown_cases, nth_there, nth_ext}
+use Rattle.history.proofs.Logs.{grown_length, grown_other, grown_here, grown_keeps, grown_cases}
 use Rattle.history.proofs.Sound.{grows, sound_new}
 use Rattle.history.proofs.Kept.{sound_accepted}
 use Rattle.history.proofs.Runs.{taken, SoundAt, run_keeps}
@@ -20,9 +21,13 @@ pub record Said {V : Type 0} (M : Payload V) (z : Size) (logs : Logs) (told : �
   pub says : (u i : ℕ) (e : Event) → at logs u i ≡ Some e
       → (r t : ℕ → Cell V) × Row M (at logs) u i r × Row M (at logs) u (suc i) t × (at told u i ≡ Some (reply M z u e r t))
 
+-- at each place of a list something stands
+there : {A : Type 0} (l : List A) (i : ℕ) → i < length l → (e : A) × (slice_get l i ≡ Some e)
+there l i h = elim ((slice_get_cases l i).1) [ inl (e, _, p, _) ↦ (e, p) | inr p ↦ absurd (let q = p.0 in omega arith) ]
+
 module _ {V : Type 0} (M : Payload V) (z : Size) where
   said_new : Said M z silence silence
-  said_new = record { as_long = λ u. refl; says = λ u i e p. (let q : ◌≡◌ {A = ℕ} 0 1 = cc in absurd (omega arith)) }
+  said_new = grind arith
 
   module _ (h : History V) (c : Call) (s : SoundAt M z h) (d : Said M z h.log h.told) (ok : refusal M z h.state c.unit c.act ≡ None) where
     rows : ℕ → Cell V
@@ -52,22 +57,14 @@ module _ {V : Type 0} (M : Payload V) (z : Size) where
       subst (λ (k : ℕ). at (grown h.told c.unit answer) c.unit k ≡ Some answer) (d.as_long c.unit) (grown_here h.told c.unit answer),
     )
 
-    at_place : (w i : ℕ) (x : Event) → w ≡ c.unit → i ≡ length (h.log c.unit) → c.act ≡ x → Says w i x
-    at_place w i x p q r = rw (p, q, ← r) says_now
-
     as_long_now : (w : ℕ) → length (grown h.told c.unit answer w) ≡ length (grown h.log c.unit c.act w)
-    as_long_now w =
-        elim (cases_eq w c.unit) [
-          | inl x ↦ subst (λ (y : ℕ). length (grown h.told c.unit answer y) ≡ length (grown h.log c.unit c.act y)) (sym x)
-              (grown_length h.told c.unit answer ∙ ap suc (d.as_long c.unit) ∙ sym (grown_length h.log c.unit c.act))
-          | inr x ↦ ap length (grown_other h.told c.unit answer w x) ∙ d.as_long w ∙ sym (ap length (grown_other h.log c.unit c.act w x))
-        ]
+    as_long_now w = grind (arith, grown_length, grown_other)
 
     pub said_accepted : Said M z (taken M z h c).log (taken M z h c).told
     unfolding Says answer rows
     said_accepted = record {
       as_long = as_long_now;
-      says = λ w i x p. ⊎_elim (λ q. at_place w i x q.0 q.1 q.2) (says_before w i x) (grown_cases h.log c.unit c.act w i x p);
+      says = λ w i x p. ⊎_elim (λ q. rw (q.0, q.1, ← q.2) says_now) (says_before w i x) (grown_cases h.log c.unit c.act w i x p);
     }
 
   -- a sound history that has said what its rows say
@@ -80,11 +77,11 @@ module _ {V : Type 0} (M : Payload V) (z : Size) where
 
   -- the logs tell all replies
   pub same_told : (logs : Logs) (a b : ℕ → List (Reply V)) → Once (at logs) → Said M z logs a → Said M z logs b → (u : ℕ) → a u ≡ b u
-  same_told logs a b once x y u = nth_ext (a u) (b u) (x.as_long u ∙ sym (y.as_long u)) each
+  same_told logs a b once x y u = same_lists (a u) (b u) (x.as_long u ∙ sym (y.as_long u)) each
     where
-      each : (i : ℕ) → i < length (a u) → slice_get (a u) i ≡ slice_get (b u) i
-      each i h =
-          let (e, p) = nth_there (logs u) i (let l = x.as_long u in omega arith) in
+      each : (i : ℕ) (other : Reply V) → i < length (a u) → get_or (a u) i other ≡ get_or (b u) i other
+      each i other h =
+          let (e, p) = there (logs u) i (let l = x.as_long u in omega arith) in
           let (r, t, d, g, q) = x.says u i e p in
           let (r', t', d', g', q') = y.says u i e p in
-          q ∙ ap₂ (λ c f. Some (reply M z u e c f)) (row_one M (at logs) once d d') (row_one M (at logs) once g g') ∙ sym q'
+          get_or_from_slice_get (a u) i _ other q ∙ ap₂ (reply M z u e) (row_one M (at logs) once d d') (row_one M (at logs) once g g') ∙ sym (get_or_from_slice_get (b u) i _ other q')

@@ -1,44 +1,34 @@
 -- A unit has one row after its first i events.
 use Rattle.std.proofs.Common.{◌≡◌, ℕ, suc, Some, sym, ap, ◌∙◌, subst, ap₂, subst₂, arith}
-use Rattle.history.specs.Events.{Event, Events, send, receive, mark}
+use Rattle.history.specs.Events.{Events, send, receive, mark}
 use Rattle.history.specs.Rows.{Payload, Cell, new_row, merge_row, mark_row}
 use Rattle.history.proofs.RowOf.{Row, new, sent, received, marked}
-use Rattle.history.proofs.Places.{send_not_mark, receive_not_mark, send_not_receive, receive_one, mark_one}
 use Rattle.history.proofs.Holds.{Once}
 
 module _ {V : Type 0} (M : Payload V) (ev : Events) where
   row_zero : (u k : ℕ) → k ≡ 0 → {t : ℕ → Cell V} → Row M ev u k t → t ≡ new_row M.start
-  row_zero u k f (new a b) = b
-  row_zero u k f (sent j m a b d) = absurd (omega arith)
-  row_zero u k f (received j m w x p q a b c d g s) = absurd (omega arith)
-  row_zero u k f (marked j c p a b d s) = absurd (omega arith)
-
-  moved_to : (u i j : ℕ) (e : Event) → i ≡ j → ev u i ≡ Some e → ev u j ≡ Some e
-  moved_to u i j e p = subst (λ y. ev u y ≡ Some e) p
+  row_zero u k f d = grind arith
 
   pub after_send : (u i m : ℕ) → ev u i ≡ Some (send m) → (k : ℕ) → k ≡ suc i → {t : ℕ → Cell V} → Row M ev u k t → Row M ev u i t
-  after_send u i m e k f (new a b) = absurd (omega arith)
-  after_send u i m e k f {t} (sent j m' a b d) = subst (λ h. Row M ev u h t) (omega arith) d
-  after_send u i m e k f (received j m' w x p q a b c d g s) = absurd (send_not_receive (ev u j) m m' (moved_to u i j _ (omega arith) e) b)
-  after_send u i m e k f (marked j c p a b d s) = absurd (send_not_mark (ev u j) m c (moved_to u i j _ (omega arith) e) b)
+  after_send u i m e k f d = grind arith
 
   pub after_mark : (u i l : ℕ) → ev u i ≡ Some (mark l) → (k : ℕ) → k ≡ suc i → {t : ℕ → Cell V} → Row M ev u k t → (r : ℕ → Cell V) × Row M ev u i r × (t ≡ mark_row M u l r)
   after_mark u i l e k f (new a b) = absurd (omega arith)
-  after_mark u i l e k f (sent j m a b d) = absurd (send_not_mark (ev u j) m l b (moved_to u i j _ (omega arith) e))
-  after_mark u i l e k f (received j m w x p q a b c d g s) = absurd (receive_not_mark (ev u j) m l b (moved_to u i j _ (omega arith) e))
+  after_mark u i l e k f (sent j m a b d) = cc
+  after_mark u i l e k f (received j m w x p q a b c d g s) = cc
   after_mark u i l e k f {t} (marked j c p a b d s) =
-      (p, subst (λ h. Row M ev u h p) (omega arith) d, s ∙ ap (λ h. mark_row M u h p) (mark_one (ev u i) c l (moved_to u j i _ (omega arith) b) e))
+      (p, subst (λ h. Row M ev u h p) (omega arith) d, s ∙ ap (λ h. mark_row M u h p) (cc))
 
   module _ (once : Once ev) where
     pub after_receive : (u i m w x : ℕ) → ev u i ≡ Some (receive m) → ev w x ≡ Some (send m) → (k : ℕ) → k ≡ suc i → {t : ℕ → Cell V} → Row M ev u k t →
         (p q : ℕ → Cell V) × Row M ev u i p × Row M ev w x q × (t ≡ merge_row M.start p q)
     after_receive u i m w x e s k f (new a b) = absurd (omega arith)
-    after_receive u i m w x e s k f (sent j m' a b d) = absurd (send_not_receive (ev u j) m' m b (moved_to u i j _ (omega arith) e))
+    after_receive u i m w x e s k f (sent j m' a b d) = cc
     after_receive u i m w x e s k f (received j m' w' x' p q a b c d g y) =
-        let o : m' ≡ m = receive_one (ev u i) m' m (moved_to u j i _ (omega arith) b) e in
+        let o : m' ≡ m = cc in
         let (h, l) = once m w' x' w x (subst (λ v. ev w' x' ≡ Some (send v)) o c) s in
         (p, q, subst (λ v. Row M ev u v p) (omega arith) d, subst₂ (λ v y. Row M ev v y q) h l g, y)
-    after_receive u i m w x e s k f (marked j c p a b d y) = absurd (receive_not_mark (ev u j) m c (moved_to u i j _ (omega arith) e) b)
+    after_receive u i m w x e s k f (marked j c p a b d y) = cc
 
     pub row_one : {u i : ℕ} {r t : ℕ → Cell V} → Row M ev u i r → Row M ev u i t → r ≡ t
     row_one {u} {i} (new a b) y = b ∙ sym (row_zero u i a y)

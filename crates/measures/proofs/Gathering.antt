@@ -1,6 +1,5 @@
 -- The flows that end at the last marks that a unit knows, gathered from its row.
 use Rattle.std.proofs.Common.{◌≡◌, ℕ, zero, suc, ◌<◌, true, false, ◌⊎◌, List, [], ◌∷◌, ◌++◌, Some, sym, refl, ◌∙◌, subst, ap₂, subst₂, inl, inr, ⊎_elim, arith}
-use Rattle.std.proofs.lemmas.Option.{none-some}
 use Rattle.std.proofs.lemmas.Bool.{cases_eq, cases_Bool}
 use Rattle.history.specs.Counting.{Among, Distinct, Exactly}
 use Rattle.history.specs.Events.{Events}
@@ -28,7 +27,7 @@ pub record Gathered {V : Type 0} (ev : Events) (m : Meaning V) (u k : ℕ) (r : 
   pub sum : gathered m r j ≡ total m ev flows
 
 total_some : {V : Type 0} (m : Meaning V) (ev : Events) (x : V) (fs : List (List Place)) → total m ev fs ≡ Some x → (f : List Place) × Among f fs
-total_some m ev x [] e = absurd (none-some x e)
+total_some m ev x [] e = cc
 total_some m ev x (f ∷ fs) e = (f, inl refl)
 
 module _ {V : Type 0} (ev : Events) (m : Meaning V) (admits : V → Type 0) (laws : Lawful m admits) (u k : ℕ) (r : ℕ → Cell V) where

@@ -1,7 +1,7 @@
 -- Each accepted mark's value is the join along the longest flows that end there.
 use Rattle.std.proofs.Common.{◌≡◌, ℕ, List, [], ◌∷◌, map, reverse, Some, sym, ap, ◌∙◌, subst, ap₂}
 use Rattle.std.proofs.Math.Path.{fun_ext}
-use Rattle.std.proofs.lemmas.Option.{none-some, same_Some}
+use Rattle.std.proofs.lemmas.Option.{same_Some}
 use Rattle.std.proofs.lemmas.List.{map-id, reverse-reverse}
 use Rattle.std.proofs.lemmas.Simd.{map-map}
 use Rattle.history.specs.Counting.{Exactly}
@@ -9,7 +9,7 @@ use Rattle.history.specs.Events.{Events, mark}
 use Rattle.history.specs.Flows.{Place, Longest, word}
 use Rattle.history.specs.Rows.{Cell}
 use Rattle.history.specs.Runs.{Call}
-use Rattle.history.proofs.Answers.{answer_made}
+use Rattle.history.proofs.Answering.{answer_made}
 use Rattle.history.proofs.Flows.{flows_longest, longest_flows}
 use Rattle.history.proofs.Holds.{Holds}
 use Rattle.history.proofs.Marking.{rows_hold}
@@ -34,7 +34,7 @@ module _ {V : Type 0} (m : Meaning V) (admits : V → Type 0) (laws : Lawful m a
 
   module _ (u i : ℕ) (x : V) where
     tally_flows : Tally m ev u i x → (f : List Place) × (fs : List (List Place)) × Exactly (Longest ev u i) (f ∷ fs) × (x ≡ join_over m ev f fs)
-    tally_flows ([], e, t) = absurd (none-some x t)
+    tally_flows ([], e, t) = cc
     tally_flows (f ∷ fs, e, t) = (
       reverse f,
       map reverse fs,

@@ -1,5 +1,5 @@
 use Rattle.history.proofs.Accepting.{accepted_are_runs}
-use Rattle.history.proofs.Answers.{marks_answered, messages_answered}
+use Rattle.history.proofs.Answering.{marks_answered, messages_answered}
 use Rattle.history.proofs.Bare.{payload_free}
 use Rattle.history.proofs.Compare.{stamps_decide}
 use Rattle.history.proofs.OrderFree.{runs_order_free}

@@ -1,16 +1,14 @@
 -- What each accepted call was told.
-use Rattle.std.proofs.Common.{◌≡◌, ℕ, suc, ◌+◌, true, ◌⊎◌, ◌↔◌, List, Some, Option, refl, ap, ◌∙◌, inl, inr, ⊎_elim, add-zero}
+use Rattle.std.proofs.Common.{◌≡◌, ℕ, suc, true, ◌⊎◌, ◌↔◌, List, Some, refl, inl, inr, arith}
 use Rattle.bitset.specs.Sets.{Member, those}
-use Rattle.bitset.proofs.Members.{those_member, member_those}
-use Rattle.std.proofs.lemmas.Bool.{cases_Bool}
+use Rattle.bitset.proofs.Members.{those_members}
 use Rattle.history.specs.Events.{Event, Events, at, send, receive, mark}
 use Rattle.history.specs.Marks.{tick, marks}
 use Rattle.history.specs.HappenedBefore.{Immediate}
 use Rattle.history.specs.Rows.{Payload, Cell}
 use Rattle.history.specs.Runs.{Size, Call}
-use Rattle.history.specs.Board.{Reply, own_clock, run}
+use Rattle.history.specs.Board.{own_clock, run}
 use Rattle.history.specs.Laws.{happened, Answered, MarksAnswered, MessagesAnswered}
-use Rattle.history.proofs.Cells.{mark_own}
 use Rattle.history.proofs.RowOf.{Row}
 use Rattle.history.proofs.Holds.{Once}
 use Rattle.history.proofs.Preceding.{top_immediate, immediate_top}
@@ -27,13 +25,10 @@ module _ {V : Type 0} (M : Payload V) (ev : Events) (once : Once ev) (u i l : �
   flagged_immediate v y = let (p, t, w) = ((rows_true M ev once d).cells v).top y in (p, top_immediate ev v p u i (l, e) t)
 
   immediate_flagged : (v p : ℕ) → Immediate ev v p u i → (r v).flag ≡ true
-  immediate_flagged v p y = ⊎_elim (λ x. x) (λ x. absurd (((rows_true M ev once d).cells v).low x p (immediate_top ev v p u i y))) (cases_Bool (r v).flag)
+  immediate_flagged v p y = grind (arith, ((rows_true M ev once d).cells v).low, immediate_top ev v p u i)
 
   pub predecessors : (z : Size) → Ranged ev z → (v : ℕ) → Member v (those (λ j. (r j).flag) z.units) ↔ ((p : ℕ) × Immediate ev v p u i)
-  predecessors z rg v = (
-    (λ m. flagged_immediate v (member_those (λ j. (r j).flag) z.units v m).1),
-    (λ y. those_member (λ j. (r j).flag) z.units v (rg.unit v y.0 y.1.0.0 y.1.0.1) (immediate_flagged v y.0 y.1)),
-  )
+  predecessors z rg v = grind (arith, flagged_immediate, those_members, immediate_flagged)
 
 module _ {V : Type 0} (M : Payload V) (z : Size) (cs : List Call) (u i l : ℕ) (e : happened M z cs u i ≡ Some (mark l)) where
   -- the answer, and the row that it was made from
@@ -54,7 +49,7 @@ module _ {V : Type 0} (M : Payload V) (z : Size) (cs : List Call) (u i l : ℕ) 
         },
         s,
         c,
-        ap (λ (y : ℕ → Cell V). (y u).value) x ∙ ap (λ (y : Cell V). y.value) (mark_own M u l s),
+        grind arith,
       )
 
 pub marks_answered : (V : Type 0) → MarksAnswered V
@@ -63,19 +58,12 @@ marks_answered V M z cs u i l e = (answer_made M z cs u i l e).0
 module _ {V : Type 0} (M : Payload V) (z : Size) (cs : List Call) (u i : ℕ) where
   -- an event that is no mark leaves the number of marks
   told_clock : (e : Event) → happened M z cs u i ≡ Some e → tick (Some e) ≡ 0 → (t : ℕ → Cell V) → Row M (happened M z cs) u (suc i) t → (t u).clock ≡ marks (happened M z cs) u i
-  told_clock e p q t g = (rows_true M (happened M z cs) (sound_run M z cs).once g).mine ∙ ap (λ (o : Option Event). marks (happened M z cs) u i + tick o) p ∙ ap (λ (k : ℕ). marks (happened M z cs) u i + k) q ∙ add-zero _
-
-  reply_clock : (t : ℕ → Cell V) (c : ℕ) → (t u).clock ≡ c → ◌≡◌ {A = Option (Reply V)} (Some (record { answer = own_clock (t u).clock; stamp = λ v. (t v).clock })) (Some (record { answer = own_clock c; stamp = λ v. (t v).clock }))
-  reply_clock t c e = ap (λ (k : ℕ). Some (record { answer = own_clock k; stamp = λ v. (t v).clock })) e
+  told_clock e p q t g = let c = (rows_true M (happened M z cs) (sound_run M z cs).once g).mine in grind arith
 
   pub moved_told : (m : ℕ) → (happened M z cs u i ≡ Some (send m)) ⊎ (happened M z cs u i ≡ Some (receive m))
       → (stamp : ℕ → ℕ) × (at (run M z cs).told u i ≡ Some (record { answer = own_clock (marks (happened M z cs) u i); stamp = stamp }))
-  moved_told m (inl e) =
-      let (r, t, d, g, q) = (said_run M z cs).says u i (send m) e in
-      ((λ v. (t v).clock), q ∙ reply_clock t _ (told_clock (send m) e refl t g))
-  moved_told m (inr e) =
-      let (r, t, d, g, q) = (said_run M z cs).says u i (receive m) e in
-      ((λ v. (t v).clock), q ∙ reply_clock t _ (told_clock (receive m) e refl t g))
+  moved_told m (inl e) = let (r, t, d, g, q) = (said_run M z cs).says u i (send m) e in let c = told_clock (send m) e refl t g in ((λ v. (t v).clock), grind arith)
+  moved_told m (inr e) = let (r, t, d, g, q) = (said_run M z cs).says u i (receive m) e in let c = told_clock (receive m) e refl t g in ((λ v. (t v).clock), grind arith)
 
 pub messages_answered : (V : Type 0) → MessagesAnswered V
 messages_answered V M z cs u i m e = moved_told M z cs u i m e
