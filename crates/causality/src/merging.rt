@@ -8,7 +8,7 @@ use super::Clock;
 use grid::{Grid, GridError, RowPair, at_or, put};
 
 // What a row knows of one unit: how many of its marks, whether the last of these is an immediate predecessor of what comes next, and what
-// is carried along the flows that end there: (), where nothing is measured.
+// is carried along the flows that end there: (), where nothing is measured. No `Option` of a clock: it counts whatever the flag says.
 #[derive(Clone, Copy, PartialEq, Eq, Debug)]
 pub struct Cell<V> {
     pub clock: Clock,
@@ -28,7 +28,7 @@ impl<V: Copy> Cell<V> {
         }
     }
 
-    // Whether the other cell knows a mark that this one does not.
+    // Whether the other cell knows a mark that this one does not. No derived order: that would compare flags and values too.
     pub fn is_behind(self, other: Cell<V>) -> bool
         ensures { result ≡ news (cell self) (cell other) }
     {
@@ -90,6 +90,8 @@ pub fn rows_to_merge(
 }
 
 // Merges row `from` of clocks and flags, a message's, into row `to`, a unit's, the unit's own cell too. What is refused changes nothing.
+// Each grid is a parameter of its own, as the rules of the project ask: the caller lends each memory apart. A loop over columns, since
+// both rows lie in one lent slice and the other row's cell is taken out by value first.
 pub fn merge_rows(
     clocks: &mut Grid<'_, Clock>,
     flags: &mut Grid<'_, bool>,

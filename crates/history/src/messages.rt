@@ -32,7 +32,8 @@ pub enum Handling {
 }
 
 impl Post {
-    // What a send or a receipt makes of the message, or why it is refused.
+    // What a send or a receipt makes of the message, or why it is refused: one match on the state and on what is done, as a rule of the
+    // project asks.
     pub fn handled(self, handling: Handling) -> Result<Post, Refusal>
         ensures { result ≡ moved self handling }
     {

@@ -57,7 +57,8 @@ fn value_rows_to_merge<V: Copy>(
 }
 
 // Merges the values of row `from`, a message's, into row `to`, a unit's, by the rows' clocks and flags before these are merged. What is
-// refused changes nothing.
+// refused changes nothing. Grids and loop are as in `merge_rows`, and for the same rules; no twin of it, since this one reads clocks and
+// flags, which that one writes, and writes values alone.
 pub fn merge_values<M: Measure>(
     m: &M,
     clocks: &Grid<'_, Clock>,
