@@ -1,7 +1,7 @@
 // Sets of the numbers 0 to 63, each one word: number q is in the set exactly when bit q of the word is 1.
 #![tactic(auto)]
 
-ghost use Rattle.std.specs.Prelude.{◌≡◌, ℕ, ◌^◌, ◌<◌, ◌&&◌, ◌||◌, if◌then◌else◌, Decides, bit_or, nat_lt};
+ghost use Rattle.std.specs.Prelude.{◌≡◌, ℕ, ◌^◌, ◌<◌, ◌&&◌, ◌||◌, if◌then◌else◌, ◌↔◌, IsTrue, bit_or, nat_lt};
 ghost use Rattle.bitset.specs.Sets.{Member, has, meets, within};
 
 // Whether q is in the set; a number from 64 on is in none.
@@ -31,7 +31,7 @@ pub fn union(a: u64, b: u64) -> u64
 #[tactic(auto, using(crate::proofs::Members::meets_members))]
 pub fn intersects(a: u64, b: u64) -> bool
     ensures value { result ≡ meets a b }
-    ensures members { Decides result ((q : ℕ) × Member q a × Member q b) }
+    ensures members { IsTrue result ↔ ((q : ℕ) × Member q a × Member q b) }
 {
     a & b != 0
 }
@@ -40,7 +40,7 @@ pub fn intersects(a: u64, b: u64) -> bool
 #[tactic(auto, using(crate::proofs::Members::within_members))]
 pub fn is_subset(a: u64, b: u64) -> bool
     ensures value { result ≡ within a b }
-    ensures members { Decides result ((q : ℕ) → Member q a → Member q b) }
+    ensures members { IsTrue result ↔ ((q : ℕ) → Member q a → Member q b) }
 {
     a & b == a
 }
@@ -49,7 +49,7 @@ pub fn is_subset(a: u64, b: u64) -> bool
 #[tactic(auto, using(crate::proofs::Members::shifted_below, crate::proofs::Members::below_members))]
 pub fn is_below(set: u64, n: u8) -> bool
     ensures value { result ≡ nat_lt set (2 ^ n) }
-    ensures members { Decides result ((q : ℕ) → Member q set → q < n) }
+    ensures members { IsTrue result ↔ ((q : ℕ) → Member q set → q < n) }
 {
     n >= 64 || set >> n == 0
 }

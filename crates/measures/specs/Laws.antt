@@ -1,5 +1,5 @@
 -- The law over runs under a measure: what is true of every list of calls handed to a new board.
-use Rattle.std.specs.Prelude.{◌≡◌, ℕ, Bool, List, ◌∷◌, map, Some, Decides}
+use Rattle.std.specs.Prelude.{◌≡◌, ℕ, Bool, List, ◌∷◌, map, Some, ◌↔◌, IsTrue}
 use Rattle.history.specs.Counting.{Exactly}
 use Rattle.history.specs.Events.{Events, mark}
 use Rattle.history.specs.Flows.{Place, Longest, word}
@@ -43,8 +43,8 @@ pub record LawOfRuns {V : Type 0} (m : Meaning V) : Type 0 where
 
 -- What two answers of a judge say of the longest flows that end at place i of unit u: some is yes exactly when one of them is good, all exactly when each is.
 pub record Judged (good : Word → Type 0) (some all : Bool) (ev : Events) (u i : ℕ) : Type 0 where
-  pub some_flow : Decides some ((f : List Place) × Longest ev u i f × good (word ev f))
-  pub all_flows : Decides all ((f : List Place) → Longest ev u i f → good (word ev f))
+  pub some_flow : IsTrue some ↔ ((f : List Place) × Longest ev u i f × good (word ev f))
+  pub all_flows : IsTrue all ↔ ((f : List Place) → Longest ev u i f → good (word ev f))
 
 -- Of each accepted mark's value a judge says whether some, and whether all, of the longest flows that end there are good.
 abbrev pub MarksJudged : {V : Type 0} → Meaning V → (V → Bool) → (V → Bool) → (Word → Type 0) → Type 0
