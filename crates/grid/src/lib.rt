@@ -153,8 +153,8 @@ fn fill<T: Copy>(part: &mut [T], v: T)
     }
 }
 
-// Copies the cells of the row that is read to the row that is written. A loop, since both rows lie in one lent slice and a rule of the
-// project asks that each cell of the other row be taken out by value first.
+// Copies the cells of the row that is read to the row that is written.
+// A loop: a rule of the project asks that each cell of the other row be taken out by value first.
 fn copy<T: Copy>(cells: &mut [T], rows: RowPair)
     requires { LieWithin rows (length cells.old) }
     ensures { cells.new ≡ with_row cells.old rows.width rows.to (row_of cells.old rows.width rows.from) }

@@ -26,7 +26,7 @@ impl Hex {
     #[tactic(auto, using(crate::proofs::HexText::hex_word_length, crate::proofs::HexText::hex_word_reads))]
     pub fn new(word: u64) -> Hex
         ensures word { result.word ≡ word }
-        ensures reads { (length (hex_word word) ≡ 16) × (digits_value 16 (hex_word word) ≡ word) }
+        ensures reads { (length (hex_word result.word) ≡ 16) × (digits_value 16 (hex_word result.word) ≡ word) }
     {
         Hex { word }
     }
