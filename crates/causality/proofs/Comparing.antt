@@ -1,7 +1,9 @@
 -- The answer of a comparison is the causal order of the marks.
-use Rattle.std.proofs.Common.{◌≡◌, ℕ, ◌<◌, ◌≤◌, List, length, get_or, None, Ok, ap, arith}
+use Rattle.std.proofs.Common.{◌≡◌, ℕ, ◌<◌, ◌≤◌, List, length, get_or, None, Ok, Result, ap, arith}
 use Rattle.std.proofs.lemmas.Bool.Decides.{nat_tests}
 use Rattle.history.specs.Precedence.{compare_refusal, compare_answer}
+use Rattle.history.specs.declared.precedence.Precedence.{Precedence}
+use Rattle.history.specs.declared.refusals.Refusal.{Refusal}
 use Rattle.history.proofs.Compare.{stamps_decide, run_unit}
 use Rattle.causality.specs.Comparing.{OrdersMarks}
 
@@ -14,3 +16,7 @@ module _ (p q : List ℕ) (u v : ℕ) where
       let taken = compared_taken z.units few lp lq (run_unit z cs ok u i mi) (run_unit z cs ok v j mj) in
       let decide = stamps_decide z cs ok u i v j mi mj (λ w. get_or p w 0) (λ w. get_or q w 0) si sj o in
       rw taken (λ e. decide.0 (cc), λ h. ap Ok (decide.1 h))
+
+  -- the same of an answer that is known to be that one
+  pub orders_marks_by : (r : Result Precedence Refusal) → r ≡ compare_answer p q u v → OrdersMarks p q u v r
+  orders_marks_by r is = rw is orders_marks

@@ -20,23 +20,16 @@ pub fn compare(p: Stamp<'_>, q: Stamp<'_>) -> Result<Precedence, Refusal>
     ensures answer { result ≡ compare_answer p.entry.clocks.now q.entry.clocks.now p.entry.unit q.entry.unit }
     ensures order { OrdersMarks p.entry.clocks.now q.entry.clocks.now p.entry.unit q.entry.unit result }
 {
-    compare_entries(p, q)
-}
-
-// The answer by the entries of both units in both stamps.
-fn compare_entries(p: Stamp<'_>, q: Stamp<'_>) -> Result<Precedence, Refusal>
-    ensures { result ≡ compare_answer p.entry.clocks.now q.entry.clocks.now p.entry.unit q.entry.unit }
-{
     if !are_stamps(p.clocks.len(), q.clocks.len()) {
         return Err(Refusal::StampLength);
     }
     if p.unit >= p.clocks.len() || q.unit >= p.clocks.len() {
         return Err(Refusal::NoSuchUnit);
     }
-    let (i, j) = (p.unit, q.unit);
-    let (p, q) = (p.clocks, q.clocks);
-    let same = i == j && p[i] == q[i];
-    Ok(first_of(same, p[i] <= q[i], q[j] <= p[j]))
+    let same = p.unit == q.unit && p.clocks[p.unit] == q.clocks[p.unit];
+    let precedes = p.clocks[p.unit] <= q.clocks[p.unit];
+    let follows = q.clocks[q.unit] <= p.clocks[q.unit];
+    Ok(first_of(same, precedes, follows))
 }
 
 // Whether stamps of these lengths can be compared.

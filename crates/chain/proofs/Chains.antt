@@ -1,8 +1,8 @@
 -- The walk along a chain, one label after the other.
 use Rattle.std.proofs.Common.{◌≡◌, ℕ, suc, ◌+◌, ◌<◌, ◌≤◌, Bool, true, false, cond, eqb, ltb, List, [], ◌∷◌, ◌++◌, length, get_or, take, inl, inr, sym, refl, ap, ◌∙◌, subst, ap₂, append_assoc, append-nil, arith, length-append, length-take}
 use Rattle.std.proofs.lemmas.List.{take_more, take_all}
-use Rattle.std.proofs.lemmas.Bool.{cases_lt, lt-ltb, ltb-true, eq-eqb, ne_eqb, eqb-true}
-use Rattle.std.proofs.lemmas.List.Sums.{prefix_len-le-length, prefix_len_passes, prefix_len_stops}
+use Rattle.std.proofs.lemmas.Bool.{cases_lt, lt-ltb, ltb-true, ne_eqb, eqb-true}
+use Rattle.std.proofs.lemmas.List.Sums.{prefix_len_passes, prefix_len_stops}
 use Rattle.measures.specs.Words.{Letter, Word, Labels}
 use Rattle.chain.specs.declared.lines.Stop.TheVariants.{UnknownLabel}
 use Rattle.chain.specs.Lines.{line_of, mark_text, verdict_text, fault_text}
@@ -22,7 +22,7 @@ known_labels n (l ∷ w) = go (ltb l n) refl (known_labels n w)
     go true e ls = let more : 1 + known_count n w ≡ suc (known_count n w) = omega arith in rw more (ltb-true l n e, ls)
     go false e ls = tt
 
--- A label below n after i known ones is known too; one that is not ends them; and where no label is left, all are known.
+-- A label below n after i known ones is known too; one that is not ends them.
 module _ (n : ℕ) (w : Word) (i : ℕ) (so_far : i ≤ known_count n w) where
   pub known_more : i < length w → get_or w i 0 < n → i + 1 ≤ known_count n w
   known_more here h = elim (cases_lt i (known_count n w)) [
@@ -41,9 +41,6 @@ module _ (n : ℕ) (w : Word) (i : ℕ) (so_far : i ≤ known_count n w) where
         absurd (omega arith)
     | inr end ↦ omega arith
   ]
-
-  known_all : length w ≤ i → known_count n w ≡ length w
-  known_all h = omega (arith, prefix_len-le-length (λ l. ltb l n) w)
 
 module _ (f : Word → ℕ) where
   lines_push : (done w : Word) (l p : ℕ) → p ≡ length done + length w + 1 → lines f done (w ++ l ∷ []) ≡ lines f done w ++ line_of (mark_text p l (f (done ++ (w ++ l ∷ []))))
@@ -80,19 +77,6 @@ module _ (f : Word → ℕ) where
           ∙ ap (λ (t : List ℕ). t ++ line_of (fault_text (UnknownLabel (from + i)))) is
           ∙ append_assoc base (lines f [] (take i w)) (line_of (fault_text (UnknownLabel (from + i))))
           ∙ ap₂ (λ (j : ℕ) (t : List ℕ). base ++ (lines f [] (take j w) ++ t)) (sym k) (sym last)
-
-      pub walk_ends : (after : List ℕ) (yes_some yes_all : Bool) → length w ≤ i → after ≡ out ++ line_of (verdict_text yes_some yes_all) → yes_some ≡ some w → yes_all ≡ all w → after ≡ base ++ walk f some all n from w
-      walk_ends after yes_some yes_all h line es ea =
-          let whole : take i w ≡ w = take_all i w h in
-          let k = known_all n w i so_far h in
-          let all_known : take (known_count n w) w ≡ w = take_all (known_count n w) w (omega arith) in
-          let last : last_line some all n from w ≡ line_of (verdict_text (some w) (all w)) =
-          ap (λ (t : Bool). cond t (line_of (verdict_text (some w) (all w))) (line_of (fault_text (UnknownLabel (from + known_count n w))))) (eq-eqb (known_count n w) (length w) k) in
-          line
-          ∙ ap₂ (λ (x y : Bool). out ++ line_of (verdict_text x y)) es ea
-          ∙ ap (λ (t : List ℕ). t ++ line_of (verdict_text (some w) (all w))) is
-          ∙ append_assoc base (lines f [] (take i w)) (line_of (verdict_text (some w) (all w)))
-          ∙ ap₂ (λ (v : Word) (t : List ℕ). base ++ (lines f [] v ++ t)) (whole ∙ sym all_known) (sym last)
 
 -- Two accounts of the words of labels below n that agree give the same walk.
 module _ (n : ℕ) (f g : Word → ℕ) (same : (w : Word) → Labels n w → f w ≡ g w) where

@@ -1,6 +1,6 @@
 -- What the laws of a measure say along words and over lists of values.
-use Rattle.std.proofs.Common.{◌≡◌, ℕ, ◌+◌, ◌<◌, ◌≤◌, [], ◌∷◌, ◌++◌, map, length, get_or, take, sym, refl, ap, ◌∙◌}
-use Rattle.std.proofs.lemmas.List.{take_more, take_all}
+use Rattle.std.proofs.Common.{◌≡◌, ℕ, ◌+◌, ◌<◌, [], ◌∷◌, ◌++◌, map, length, get_or, take, sym, refl, ap, ◌∙◌}
+use Rattle.std.proofs.lemmas.List.{take_more}
 use Rattle.measures.specs.Words.{Letter, Word}
 use Rattle.measures.specs.Measures.{Meaning, Spelled, Lawful, carried_from, carried, joined, Carries}
 
@@ -9,7 +9,7 @@ module _ {V : Type 0} (m : Meaning V) where
   carried_push v [] l = refl
   carried_push v (x ∷ w) l = carried_push (m.step v x) w l
 
-  -- what is carried along the first letters of a word: one letter more, and all of them
+  -- what is carried along the first letters of a word, one letter more
   pub carried_more : (w : Word) (i : ℕ) → i < length w → carried m (take (i + 1) w) ≡ m.step (carried m (take i w)) (get_or w i 0)
   carried_more w i h = ap (carried m) (take_more w i 0 h) ∙ carried_push m.start (take i w) (get_or w i 0)
 
@@ -18,9 +18,6 @@ module _ {V : Type 0} (m : Meaning V) where
       step
       ∙ ap (λ (y : V). m.step y (get_or w i 0)) before
       ∙ sym (carried_more w i h)
-
-  pub carried_take_all : (v : V) (w : Word) (i : ℕ) → length w ≤ i → v ≡ carried m (take i w) → v ≡ carried m w
-  carried_take_all v w i h before = before ∙ ap (carried m) (take_all i w h)
 
   module _ (admits : V → Type 0) (laws : Lawful m admits) where
     pub carried_join : (a b : V) (w : Word) → admits a → admits b → Spelled m w → carried_from m (m.join a b) w ≡ m.join (carried_from m a w) (carried_from m b w)

@@ -1,5 +1,6 @@
 -- The bytes of patterns and of relabellings, and what is wrong with them.
 use Rattle.std.specs.Prelude.{◌≡◌, ℕ, ◌+◌, ◌-◌, ◌*◌, ◌^◌, ◌&&◌, List, ◌++◌, length, take, drop, replicate, Some, None, Option, ◌==◌, nat_le, nat_lt, position, slice_index}
+use Rattle.std.specs.Option.{option_or}
 use Rattle.measures.specs.declared.refusals.Fault.{Fault}
 use Rattle.measures.specs.declared.refusals.Refusal.TheVariants.{PatternTooShort, NotAPattern, StateCount, LabelCount, StartState, FinalStates, TableTooShort, EntryTooLarge, NotARelabelling}
 use Rattle.measures.specs.Refusals.{fault, ask, counted}
@@ -53,14 +54,9 @@ head_fault b =
     (ask (nat_lt (finals_in b) (2 ^ states_in b)) (fault FinalStates 4)
     None)))))
 
--- the first fault, if there is one, and else the second
-abbrev pub or_else : Option Fault → Option Fault → Option Fault
-or_else None second = second
-or_else (Some f) second = Some f
-
 -- What is wrong with a pattern's bytes.
 abbrev pub pattern_fault : List ℕ → Option Fault
-pattern_fault b = or_else (head_fault b) (table_fault b 12 (states_in b * labels_in b) (states_in b))
+pattern_fault b = option_or (head_fault b) (table_fault b 12 (states_in b * labels_in b) (states_in b))
 
 -- a table with zeros after its entries, n in all
 abbrev pub padded : ℕ → List ℕ → List ℕ
@@ -91,4 +87,4 @@ count_fault b at =
 
 -- What is wrong with the bytes of a relabelling to n inner labels.
 abbrev pub relabelling_fault : List ℕ → ℕ → ℕ → Option Fault
-relabelling_fault b at n = or_else (count_fault b at) (table_fault b (at + 2) (count_in b at) n)
+relabelling_fault b at n = option_or (count_fault b at) (table_fault b (at + 2) (count_in b at) n)

@@ -40,16 +40,6 @@ pub fn verdicts<J: Judge>(j: &J, v: J::Value) -> Verdict
     ensures all { result.all ≡ J.Judge.all_of j.now v }
     ensures flows { MarksJudged (J.Measure.meaning j.now) (J.Judge.some_of j.now) (J.Judge.all_of j.now) (J.Judge.good j.now) }
 {
-    answers(j, v)
-}
-
-// The verdict, each answer with what the judge shows of it.
-fn answers<J: Judge>(j: &J, v: J::Value) -> Verdict
-    ensures some { result.some ≡ J.Judge.some_of j.now v }
-    ensures all { result.all ≡ J.Judge.all_of j.now v }
-    ensures some_judges { Judges ◌||◌ (J.Measure.meaning j.now) (J.Measure.admits j.now) (J.Judge.some_of j.now) (J.Judge.good j.now) }
-    ensures all_judges { Judges ◌&&◌ (J.Measure.meaning j.now) (J.Measure.admits j.now) (J.Judge.all_of j.now) (J.Judge.good j.now) }
-{
     let some = j.some(v);
     let all = j.all(v);
     Verdict { some, all }

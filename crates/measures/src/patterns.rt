@@ -29,7 +29,6 @@ struct Head {
 pub struct Pattern {
     head: Head,
     table: [u8; 4096],
-    ghost whole: { head.states.number * head.labels.number ≤ 4096 },
     ghost complete: { (k : ℕ) → k < head.states.number * head.labels.number → slice_index table k < head.states.number },
 }
 

@@ -1,8 +1,8 @@
-use Rattle.std.proofs.Common.{string_bytes, ap, ◌∙◌, arith}
+use Rattle.std.proofs.Common.{string_bytes, arith}
 use Rattle.measures.specs.Measures.{carried}
 use Rattle.measures.specs.Words.{Word}
-use Rattle.measures.proofs.Carrying.{carried_take_more, carried_take_all}
-use Rattle.chain.proofs.Chains.{known_more, lines_more, walk_stops, walk_ends}
+use Rattle.measures.proofs.Carrying.{carried_take_more}
+use Rattle.chain.proofs.Chains.{known_more, lines_more, walk_stops}
 use Rattle.chain.proofs.walks.write_walk.Goals as goal
 
 pub returns-then-label-labels : goal.returns-then-label-labels
@@ -26,16 +26,3 @@ loop-i-preserved g c =
       reached = next;
       labels_known = known_more m.labels w l.i l.invariant.labels_known (omega arith) (omega (arith, c.labels.ensures));
     }
-
-pub returns : goal.returns
-returns g c =
-    let judge = c.args.judge.now in
-    let m = g.J.Measure.meaning judge in
-    let l = c.loop-i in
-    let w = c.args.labels.now in
-    let whole = carried_take_all m l.states w l.i (omega arith) l.invariant.reached in
-    walk_ends (carried m) (string_bytes c.args.out.now) (string_bytes l.out) w l.i l.invariant.written
-    (λ (v : Word). g.J.Judge.some_of judge (carried m v)) (λ (v : Word). g.J.Judge.all_of judge (carried m v)) m.labels c.args.from l.invariant.labels_known
-    (string_bytes c.writeln-2.new.self) c.verdicts.result.some c.verdicts.result.all (omega arith) c.in_ok-writeln-3.ensures.bytes
-    (c.verdicts.ensures.some ∙ ap (g.J.Judge.some_of judge) whole)
-    (c.verdicts.ensures.all ∙ ap (g.J.Judge.all_of judge) whole)

@@ -5,4 +5,4 @@ pub returns-clause-flows : goal.returns-clause-flows
 returns-clause-flows g c =
     let j = c.args.j.now in
     marks_judged (g.J.Measure.meaning j) (g.J.Measure.admits j) (g.met.J.Measure.lawful j) (g.J.Judge.some_of j) (g.J.Judge.all_of j) (g.J.Judge.good j)
-    c.answers.ensures.some_judges c.answers.ensures.all_judges
+    c.some-some.ensures.judges c.all-all.ensures.judges

@@ -4,11 +4,6 @@ use Rattle.measures.specs.Formats.{PatternOf}
 use Rattle.measures.proofs.Recognizing.{padded_complete, recognizes}
 use Rattle.measures.proofs.patterns.Pattern.read.Goals as goal
 
-pub invariant_of-result-clause-complete : goal.invariant_of-result-clause-complete
-invariant_of-result-clause-complete c =
-    let h = c.in_ok-head.head in
-    padded_complete 4096 h.states.number (h.states.number * h.labels.number) c.in_ok-table.table.now c.with_zeros.result c.with_zeros.ensures (λ k l. c.in_ok-table.ensures.3 k (omega arith))
-
 pub returns-clause-recognizes : goal.returns-clause-recognizes
 returns-clause-recognizes c =
     let b = c.args.input.now in
