@@ -1,4 +1,5 @@
 // Sets of the numbers 0 to 63, each one word: number q is in the set exactly when bit q of the word is 1.
+// A rule of the project asks for plain words, with shifts and masks.
 #![tactic(auto)]
 
 ghost use Rattle.std.specs.Prelude.{◌≡◌, ℕ, ◌^◌, ◌<◌, ◌&&◌, ◌||◌, if◌then◌else◌, ◌↔◌, IsTrue, bit_or, nat_lt};

@@ -8,7 +8,8 @@ use Rattle.history.specs.Stamps.{Stamp}
 use Rattle.history.specs.Precedence.{Ordered}
 use Rattle.history.specs.Runs.{Size, Call, Run, by_unit, most_units}
 
--- Where p and q are the stamps of a mark of unit u and of a mark of unit v in any run of a board, the answer r is o exactly when the marks stand so.
+-- Where p and q are the stamps of a mark of unit u and of a mark of unit v in any run of a board, the answer r is o exactly when
+-- the marks stand so.
 abbrev pub OrdersMarks : List ℕ → List ℕ → ℕ → ℕ → Result Precedence Refusal → Type 0
 OrdersMarks p q u v r =
     (z : Size) (cs : List Call) → Run z cs → z.units ≤ most_units → length p ≡ z.units → length q ≡ z.units

@@ -8,7 +8,8 @@ use super::Clock;
 use grid::{Grid, GridError, RowPair, at_or, put};
 
 // What a row knows of one unit: how many of its marks, whether the last of these is an immediate predecessor of what comes next, and what
-// is carried along the flows that end there: (), where nothing is measured. No `Option` of a clock: it counts whatever the flag says.
+// is carried along the flows that end there: (), where nothing is measured.
+// Flag and value are no `Option`: the caller lends flags and values as two memories, of any contents.
 #[derive(Clone, Copy, PartialEq, Eq, Debug)]
 pub struct Cell<V> {
     pub clock: Clock,
@@ -17,7 +18,7 @@ pub struct Cell<V> {
 }
 
 impl<V: Copy> Cell<V> {
-    // The cell at a place of clocks, flags and values; past the end of the values it carries `start`.
+    // The cell at a place of clocks, flags and values; past an end the clock is 0, the flag no, and the value `start`.
     pub fn at(start: V, clocks: &[Clock], flags: &[bool], values: &[V], place: usize) -> Cell<V>
         ensures { cell result ≡ cell_at start clocks.now flags.now values.now place }
     {
@@ -36,7 +37,8 @@ impl<V: Copy> Cell<V> {
     }
 }
 
-// A unit's cell merged with a message's: the one with the larger clock. At equal clocks both tell of one mark: the flag is yes only if both
+// A unit's cell merged with a message's: the one with the larger clock. At equal clocks both tell of one mark: the flag is yes
+// only if both
 // are, and where it is no the value becomes `start`.
 pub fn merge_cell<V: Copy>(start: V, own: Cell<V>, other: Cell<V>) -> Cell<V>
     ensures { cell result ≡ merged_cell start (cell own) (cell other) }

@@ -15,11 +15,13 @@ letter TooLong = codes "I"
 letter (BadPattern f) = codes "P"
 letter (UnknownLabel p) = codes "B"
 
+-- the number of each fault
 abbrev pub number : Stop → ℕ
 number TooLong = 29
 number (BadPattern f) = refusing.number f.refusal
 number (UnknownLabel p) = 6
 
+-- the byte at which each fault is told
 abbrev pub place : Stop → ℕ
 place TooLong = 65536
 place (BadPattern f) = f.place

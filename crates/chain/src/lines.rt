@@ -1,6 +1,6 @@
 // What the lines of a report say, each as it is printed.
 ghost use Rattle.std.specs.Prelude.{◌≡◌};
-ghost use Rattle.chain.specs.Lines.{letter, number, place};
+ghost use Rattle.chain.specs.Lines.{letter, place};
 
 use measures::{Fault, Verdict};
 use std::fmt;
@@ -29,17 +29,6 @@ impl Stop {
         }
     }
 
-    // The number of the fault: the reader's, a board's, or the one for too much input.
-    fn number(self) -> u8
-        ensures { result ≡ number self }
-    {
-        match self {
-            Stop::TooLong => TOO_LONG,
-            Stop::BadPattern(fault) => u8::from(fault.refusal),
-            Stop::UnknownLabel(_) => u8::from(history::Refusal::NoSuchLabel),
-        }
-    }
-
     // The byte of the input where it was met.
     fn place(self) -> usize
         ensures { result ≡ place self }
@@ -48,6 +37,22 @@ impl Stop {
             Stop::TooLong => crate::reports::MOST_BYTES,
             Stop::BadPattern(fault) => fault.place,
             Stop::UnknownLabel(place) => place,
+        }
+    }
+}
+
+// The number of the fault: the reader's, a board's, or the one for too much input.
+impl From<Stop> for u8 {
+    ghost use Rattle.std.specs.Prelude.{◌≡◌};
+    ghost use Rattle.chain.specs.Lines.{number};
+
+    ghost from_gives = { λ stop n. n ≡ number stop };
+
+    fn from(stop: Stop) -> u8 {
+        match stop {
+            Stop::TooLong => TOO_LONG,
+            Stop::BadPattern(fault) => u8::from(fault.refusal),
+            Stop::UnknownLabel(_) => u8::from(history::Refusal::NoSuchLabel),
         }
     }
 }
@@ -72,7 +77,7 @@ impl fmt::Display for Stop {
 
     fn fmt<W: fmt::Write>(&self, f: &mut fmt::Formatter<W>) -> fmt::Result {
         let letter = self.letter();
-        let number = self.number();
+        let number = u8::from(*self);
         let place = self.place();
         write!(f, "fault {letter} {number} {place}")
     }
@@ -100,7 +105,7 @@ impl fmt::Display for MarkLine {
     }
 }
 
-// The verdict on the whole chain.
+// The verdict on the whole chain, in a type of its own: `Verdict` is another crate's, which prints nothing.
 #[derive(Clone, Copy, PartialEq, Eq, Debug)]
 pub(crate) struct VerdictLine {
     pub(crate) verdict: Verdict,

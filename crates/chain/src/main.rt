@@ -11,6 +11,7 @@ mod walks;
 use std::io;
 use std::io::{Read, Write};
 
+// Reads all input, up to a byte past the limit, and writes the report.
 fn main(rt: HostRuntime) -> io::Result<()> {
     let mut input = Vec::new(rt.alloc());
     // one byte past the limit tells that there are too many

@@ -11,7 +11,7 @@ use std::alloc::{AllocError, Global};
 // A longer input is not read.
 pub(crate) const MOST_BYTES: usize = 65536;
 
-// The pattern at the front of an input that is not too long, and the byte after it.
+// The pattern at the front of an input that is not too long, and the byte after it, which no clause can tell from private fields.
 fn read(input: &[u8]) -> Result<(Pattern, usize), Stop>
     ensures answer { MatchResult result (λ r. (stop_on input.now ≡ None) × (r.1 ≡ chain_start input.now)) (λ s. stop_on input.now ≡ Some s) }
     ensures recognizes { IfOk result (λ r. Recognizes input.now (⟦<Pattern as Measure>⟧.meaning r.0) (⟦<Pattern as Judge>⟧.some_of r.0) (⟦<Pattern as Judge>⟧.all_of r.0)) }

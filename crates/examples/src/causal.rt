@@ -27,7 +27,8 @@ fn compared(p: &[u16], q: &[u16], i: usize, j: usize) -> Result<u8, u8> {
     compare(p, q).map(u8::from).map_err(u8::from)
 }
 
-// Unit 0 marks a and b, unit 2 marks d, unit 1 hears of a and d and marks e; unit 0 hears of e and of a further mark of unit 1, and marks c.
+// Unit 0 marks a and b, unit 2 marks d, unit 1 hears of a and d and marks e; unit 0 hears of e and of a further mark of unit 1,
+// and marks c.
 #[test]
 fn three_chains_into_one_mark(rt: HostRuntime) {
     let a = [1, 0, 0];

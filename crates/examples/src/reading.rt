@@ -32,6 +32,7 @@ const BAD_PATTERNS: [(usize, u8, u8, usize); 16] = [
     (26, 5, 20, 26),
 ];
 
+// The same for the relabelling.
 const BAD_RELABELLINGS: [(usize, u8, u8, usize); 8] = [
     (27, 0x20, 22, 27),
     (27, 0x31, 22, 27),

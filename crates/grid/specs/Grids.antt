@@ -15,9 +15,11 @@ module _ {T : Type 0} (g : Grid T) where
   abbrev pub has_row : ℕ → Bool
   has_row r = row_inside (length g.cells.now) g.width r
 
+  -- whether it has both rows
   abbrev pub has_rows : ℕ → ℕ → Bool
   has_rows from to = has_row from && has_row to
 
+  -- two rows of the grid, one that is read and one that is written
   abbrev pub row_pair : ℕ → ℕ → RowPair
   row_pair from to = record { width = g.width; from = from; to = to }
 

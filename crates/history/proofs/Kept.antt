@@ -1,10 +1,10 @@
 -- Each accepted call keeps what a run keeps.
 use Rattle.std.proofs.Common.{◌≡◌, ℕ, ◌<◌, true, length, Some, None, sym, refl, ◌∙◌, subst, subst₂, ⊎_elim, arith}
-use Rattle.std.specs.Result.{result_unwrap_or}
+use Rattle.std.specs.Result.{result_err, result_unwrap_or}
 use Rattle.history.specs.declared.messages.Post.{Post}
 use Rattle.history.specs.declared.messages.Handling.TheVariants.{Sending, Receiving}
 use Rattle.history.specs.Events.{Event, Logs, at, send, receive, mark}
-use Rattle.history.specs.Messages.{moved, refused, Stated}
+use Rattle.history.specs.Messages.{moved, Stated}
 use Rattle.history.specs.Rows.{Payload, put, merge_row, mark_row}
 use Rattle.history.specs.Runs.{Size, grown}
 use Rattle.history.specs.Board.{State, refusal, acted}
@@ -23,7 +23,7 @@ module _ {V : Type 0} (M : Payload V) (z : Size) (s : State V) (logs : Logs) (h 
       (λ p. subst (Stated (at (grown logs u x)) a) (sym p.1) (stated_other logs u x a (s.posts a) (d a p.0).0 (d a p.0).1 (h.posts_are a)))
       (put_cases s.posts m q a)
 
-  pub sound_send : (m : ℕ) → refused (moved (s.posts m) Sending) ≡ None → Sound M z (acted M z s u (send m)) (grown logs u (send m))
+  pub sound_send : (m : ℕ) → result_err (moved (s.posts m) Sending) ≡ None → Sound M z (acted M z s u (send m)) (grown logs u (send m))
   sound_send m ok = record {
     rows_are = rows_grow M z s logs h u (send m) (s.rows u) (sent (length (logs u)) m refl (grown_here logs u (send m)) (grows M z s logs h u (send m) (h.rows_are u))) s.rows refl (λ w d. refl);
     sent_row = λ a w j e. grind (arith, now a w j, sent_row_grows M z s logs h u (send m) a);
@@ -40,7 +40,7 @@ module _ {V : Type 0} (M : Payload V) (z : Size) (s : State V) (logs : Logs) (h 
       now : (a w j : ℕ) → a ≡ m → at (grown logs u (send m)) w j ≡ Some (send a) → Row M (at (grown logs u (send m))) w j (s.rows u)
       now a w j e p = grind (arith, grown_cases logs u (send m) w j (send a), grows M z s logs h u (send m) (h.rows_are u))
 
-  pub sound_receive : (m : ℕ) → refused (moved (s.posts m) Receiving) ≡ None → Sound M z (acted M z s u (receive m)) (grown logs u (receive m))
+  pub sound_receive : (m : ℕ) → result_err (moved (s.posts m) Receiving) ≡ None → Sound M z (acted M z s u (receive m)) (grown logs u (receive m))
   sound_receive m ok = record {
     rows_are =
         (let (w, j, e) = ((may_receive (at logs) m (s.posts m) (h.posts_are m)).0 ok).0 in

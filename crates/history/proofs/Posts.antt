@@ -1,19 +1,19 @@
 -- The state of a message as the logs grow.
 use Rattle.std.proofs.Common.{◌≡◌, ℕ, ◌↔◌, length, Some, None, arith}
-use Rattle.std.specs.Result.{result_unwrap_or}
+use Rattle.std.specs.Result.{result_err, result_unwrap_or}
 use Rattle.history.specs.declared.messages.Post.{Post}
 use Rattle.history.specs.declared.messages.Post.TheVariants.{Unsent, OnItsWay, Delivered}
 use Rattle.history.specs.declared.messages.Handling.TheVariants.{Sending, Receiving}
 use Rattle.history.specs.Events.{Event, Events, Logs, at, send, receive, Sent, Received}
-use Rattle.history.specs.Messages.{moved, refused, Stated}
+use Rattle.history.specs.Messages.{moved, Stated}
 use Rattle.history.specs.Runs.{grown}
 use Rattle.history.proofs.Logs.{grown_here, grown_keeps, grown_cases}
 
 -- what the state allows is what the events allow
-pub may_send : (ev : Events) (m : ℕ) (p : Post) → Stated ev m p → (refused (moved p Sending) ≡ None) ↔ (Sent ev m → ⊥)
+pub may_send : (ev : Events) (m : ℕ) (p : Post) → Stated ev m p → (result_err (moved p Sending) ≡ None) ↔ (Sent ev m → ⊥)
 may_send ev m p s = grind arith
 
-pub may_receive : (ev : Events) (m : ℕ) (p : Post) → Stated ev m p → (refused (moved p Receiving) ≡ None) ↔ (Sent ev m × (Received ev m → ⊥))
+pub may_receive : (ev : Events) (m : ℕ) (p : Post) → Stated ev m p → (result_err (moved p Receiving) ≡ None) ↔ (Sent ev m × (Received ev m → ⊥))
 may_receive ev m p s = grind arith
 
 module _ (logs : Logs) (u : ℕ) (x : Event) where
@@ -28,12 +28,12 @@ module _ (logs : Logs) (u : ℕ) (x : Event) where
   stated_other m p a b s = grind (arith, keeps (send m), keeps (receive m), adds_none (send m) a, adds_none (receive m) b)
 
 module _ (logs : Logs) (u m : ℕ) where
-  pub stated_sent : (p : Post) → refused (moved p Sending) ≡ None → Stated (at logs) m p → Stated (at (grown logs u (send m))) m (result_unwrap_or (moved p Sending) p)
+  pub stated_sent : (p : Post) → result_err (moved p Sending) ≡ None → Stated (at logs) m p → Stated (at (grown logs u (send m))) m (result_unwrap_or (moved p Sending) p)
   stated_sent Unsent e s = ((u, length (logs u), grown_here logs u (send m)), adds_none logs u (send m) (receive m) (λ e. cc) s.1)
   stated_sent OnItsWay e s = cc
   stated_sent Delivered e s = cc
 
-  pub stated_received : (p : Post) → refused (moved p Receiving) ≡ None → Stated (at logs) m p → Stated (at (grown logs u (receive m))) m (result_unwrap_or (moved p Receiving) p)
+  pub stated_received : (p : Post) → result_err (moved p Receiving) ≡ None → Stated (at logs) m p → Stated (at (grown logs u (receive m))) m (result_unwrap_or (moved p Receiving) p)
   stated_received Unsent e s = cc
   stated_received OnItsWay e s = (keeps logs u (receive m) (send m) s.0, (u, length (logs u), grown_here logs u (receive m)))
   stated_received Delivered e s = cc

@@ -1,14 +1,14 @@
 -- The board: what each call is asked, answers and changes, and runs of any list of calls.
 use Rattle.std.specs.Prelude.{ℕ, List, [], ◌∷◌, Some, None, Ok, Err, Option, Result, nat_lt}
 use Rattle.bitset.specs.Sets.{those}
-use Rattle.std.specs.Result.{result_unwrap_or}
+use Rattle.std.specs.Result.{result_err, result_unwrap_or}
 use Rattle.history.specs.declared.messages.Post.{Post}
 use Rattle.history.specs.declared.messages.Post.TheVariants.{Unsent}
 use Rattle.history.specs.declared.messages.Handling.TheVariants.{Sending, Receiving}
 use Rattle.history.specs.declared.refusals.Refusal.{Refusal}
 use Rattle.history.specs.declared.refusals.Refusal.TheVariants.{NoSuchUnit, NoSuchMessage, NoSuchLabel, ClockFull}
 use Rattle.history.specs.Events.{Event, send, receive, mark, Logs}
-use Rattle.history.specs.Messages.{moved, refused}
+use Rattle.history.specs.Messages.{moved}
 use Rattle.history.specs.Refusals.{ask}
 use Rattle.history.specs.Rows.{Cell, Payload, put, new_row, merge_row, mark_row}
 use Rattle.history.specs.Runs.{Size, Call, silence, grown}
@@ -56,11 +56,12 @@ module _ {V : Type 0} (M : Payload V) where
   module _ (z : Size) where
     -- The questions of each call in their order; the first no gives the refusal.
     abbrev pub refusal : State V → ℕ → Event → Option Refusal
-    refusal s u (send m) = ask (nat_lt u z.units) NoSuchUnit (ask (nat_lt m z.messages) NoSuchMessage (refused (moved (s.posts m) Sending)))
-    refusal s u (receive m) = ask (nat_lt u z.units) NoSuchUnit (ask (nat_lt m z.messages) NoSuchMessage (refused (moved (s.posts m) Receiving)))
+    refusal s u (send m) = ask (nat_lt u z.units) NoSuchUnit (ask (nat_lt m z.messages) NoSuchMessage (result_err (moved (s.posts m) Sending)))
+    refusal s u (receive m) = ask (nat_lt u z.units) NoSuchUnit (ask (nat_lt m z.messages) NoSuchMessage (result_err (moved (s.posts m) Receiving)))
     refusal s u (mark l) = ask (nat_lt u z.units) NoSuchUnit (ask (z.fits u l) NoSuchLabel (ask (nat_lt (s.rows u u).clock z.limit) ClockFull None))
 
-    -- The state after an accepted call: a send copies the unit's row to the message's, a receipt merges the message's row into the unit's, a mark rewrites the unit's row.
+    -- The state after an accepted call: a send copies the unit's row to the message's, a receipt merges the message's row into
+    -- the unit's, a mark rewrites the unit's row.
     abbrev pub acted : State V → ℕ → Event → State V
     acted s u (send m) = record { rows = s.rows; message_rows = put s.message_rows m (s.rows u); posts = put s.posts m (result_unwrap_or (moved (s.posts m) Sending) (s.posts m)) }
     acted s u (receive m) = record { rows = put s.rows u (merge_row M.start (s.rows u) (s.message_rows m)); message_rows = s.message_rows; posts = put s.posts m (result_unwrap_or (moved (s.posts m) Receiving) (s.posts m)) }

@@ -2,7 +2,8 @@
 use Rattle.std.specs.Prelude.{◌≡◌, ℕ, List, Some, Option}
 use Rattle.std.specs.List.{slice_get}
 
--- What a unit can do: send a message, receive one, or make a mark with a label. A unit is one process of a handset, a mark an event that it shows.
+-- What a unit can do: send a message, receive one, or make a mark with a label. A unit is one process of a handset, a mark an
+-- event that it shows.
 pub data Event : Type 0 where
   send : ℕ → Event
   receive : ℕ → Event

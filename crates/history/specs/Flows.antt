@@ -25,7 +25,8 @@ Ends u i [] = ⊥
 Ends u i (x ∷ []) = x ≡ (u, i)
 Ends u i (x ∷ (y ∷ f)) = Ends u i (y ∷ f)
 
--- A longest flow ending at the mark at place i of unit u: a list of marks whose first has no mark before it, whose last is that mark, and whose neighbours are each immediate predecessor and successor.
+-- A longest flow ending at the mark at place i of unit u: a list of marks whose first has no mark before it, whose last is that
+-- mark, and whose neighbours are each immediate predecessor and successor.
 abbrev pub Longest : Events → ℕ → ℕ → List Place → Type 0
 Longest ev u i f = Opens ev f × Linked ev f × Ends u i f
 

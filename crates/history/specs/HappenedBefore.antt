@@ -3,7 +3,8 @@ use Rattle.std.specs.Prelude.{◌≡◌, ℕ, ◌<◌, ◌⊎◌, Some}
 use Rattle.history.specs.Events.{Events, send, receive, Stands}
 use Rattle.history.specs.Marks.{IsMark}
 
--- The event at place i of unit u is before the one at place j of unit v: it came earlier on the same unit, or is the send of the other's receipt, or a chain of such steps leads to the other.
+-- The event at place i of unit u is before the one at place j of unit v: it came earlier on the same unit, or is the send of the
+-- other's receipt, or a chain of such steps leads to the other.
 pub data Before (ev : Events) : ℕ → ℕ → ℕ → ℕ → Type 0 where
   earlier : {u i v j : ℕ} → u ≡ v → i < j → Stands ev u i → Stands ev v j → Before ev u i v j
   message : {u i v j : ℕ} (m : ℕ) → ev u i ≡ Some (send m) → ev v j ≡ Some (receive m) → Before ev u i v j
@@ -17,7 +18,8 @@ Here u i v j = (u ≡ v) × (i ≡ j)
 abbrev pub UpTo : Events → ℕ → ℕ → ℕ → ℕ → Type 0
 UpTo ev u i v j = Here u i v j ⊎ Before ev u i v j
 
--- The mark at place i of unit u is an immediate predecessor of the mark at place j of unit v: it is before it, and no mark lies between them.
+-- The mark at place i of unit u is an immediate predecessor of the mark at place j of unit v: it is before it, and no mark lies
+-- between them.
 abbrev pub Immediate : Events → ℕ → ℕ → ℕ → ℕ → Type 0
 Immediate ev u i v j =
     IsMark ev u i × IsMark ev v j × Before ev u i v j × ((w k : ℕ) → IsMark ev w k → Before ev u i w k → Before ev w k v j → ⊥)

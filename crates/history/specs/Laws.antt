@@ -48,7 +48,8 @@ pub record Alike {V : Type 0} (g h : History V) : Type 0 where
   pub posts : (m : ℕ) → g.state.posts m ≡ h.state.posts m
   pub replies : (u j : ℕ) → at g.told u j ≡ at h.told u j
 
--- Two lists whose accepted calls are the same unit by unit got the same answer to each unit's j-th accepted call and stand alike; and any one more call, the same for both, is answered alike and leaves them alike.
+-- Two lists whose accepted calls are the same unit by unit got the same answer to each unit's j-th accepted call and stand
+-- alike; and any one more call, the same for both, is answered alike and leaves them alike.
 pub record OrderFree {V : Type 0} (M : Payload V) (z : Size) (cs ds : List Call) : Type 0 where
   pub alike : Alike (run M z cs) (run M z ds)
   pub one_more : (c : Call) → outcome M z (run M z cs).state c ≡ outcome M z (run M z ds).state c

@@ -1,5 +1,5 @@
 -- What becomes of a message.
-use Rattle.std.specs.Prelude.{ℕ, Some, None, Ok, Err, Option, Result}
+use Rattle.std.specs.Prelude.{ℕ, Ok, Err, Result}
 use Rattle.history.specs.declared.messages.Post.{Post}
 use Rattle.history.specs.declared.messages.Post.TheVariants.{Unsent, OnItsWay, Delivered}
 use Rattle.history.specs.declared.messages.Handling.{Handling}
@@ -22,11 +22,6 @@ moved Delivered Sending = Err SentBefore
 moved Unsent Receiving = Err NeverSent
 moved OnItsWay Receiving = Ok Delivered
 moved Delivered Receiving = Err ReceivedBefore
-
--- why it is refused, if it is
-abbrev pub refused : {X Y : Type 0} → Result X Y → Option Y
-refused (Ok x) = None
-refused (Err y) = Some y
 
 -- The state of message m is what the events say.
 abbrev pub Stated : Events → ℕ → Post → Type 0

@@ -34,5 +34,6 @@ abbrev pub compare_refusal : List ℕ → List ℕ → ℕ → ℕ → Option Re
 compare_refusal p q u v =
     ask (length p == length q && (nat_le 1 (length p) && nat_le (length p) most_units)) StampLength (ask (nat_lt u (length p) && nat_lt v (length p)) NoSuchUnit None)
 
+-- The answer of a comparison, or why it is refused.
 abbrev pub compare_answer : List ℕ → List ℕ → ℕ → ℕ → Result Precedence Refusal
 compare_answer p q u v = answered (compare_refusal p q u v) (compared (λ w. slice_index p w) (λ w. slice_index q w) u v)

@@ -1,13 +1,15 @@
 -- Cells, and the rules for rows of cells.
 use Rattle.std.specs.Prelude.{ℕ, suc, Bool, true, false, if◌then◌else◌, ◌&&◌, ◌==◌, nat_lt}
 
--- A cell of a row tells of one unit: the clock is the number of its marks that are known, the flag says whether the last of these is an immediate predecessor of what comes next.
+-- A cell of a row tells of one unit: the clock is the number of its marks that are known, the flag says whether the last of
+-- these is an immediate predecessor of what comes next.
 pub record Cell (V : Type 0) : Type 0 where
   pub clock : ℕ
   pub flag : Bool
   pub value : V
 
--- What cells carry beside clock and flag: a start, and what a mark gets from its unit's row, its unit and its label. A board without measures carries nothing.
+-- What cells carry beside clock and flag: a start, and what a mark gets from its unit's row, its unit and its label. A board
+-- without measures carries nothing.
 pub record Payload (V : Type 0) : Type 0 where
   pub start : V
   pub make : (ℕ → Cell V) → ℕ → ℕ → V
@@ -37,6 +39,7 @@ module _ {V : Type 0} (start : V) where
   abbrev pub merged_cell : Cell V → Cell V → Cell V
   merged_cell a b = if news a b then b else (if news b a then a else even_cell a b)
 
+  -- a unit's row a merged with a message's row b, cell by cell
   abbrev pub merge_row : (ℕ → Cell V) → (ℕ → Cell V) → ℕ → Cell V
   merge_row a b j = merged_cell (a j) (b j)
 

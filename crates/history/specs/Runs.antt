@@ -28,7 +28,8 @@ silence u = []
 abbrev pub grown : {A : Type 0} → (ℕ → List A) → ℕ → A → ℕ → List A
 grown logs u x = put logs u (logs u ++ x ∷ [])
 
--- What can come next in a run that has come to these logs: a send of a message not yet sent, a receipt of one on its way, a mark within the limits.
+-- What can come next in a run that has come to these logs: a send of a message not yet sent, a receipt of one on its way, a mark
+-- within the limits.
 abbrev pub Possible : Size → Logs → ℕ → Event → Type 0
 Possible z logs u (send m) = (u < z.units) × (m < z.messages) × (Sent (at logs) m → ⊥)
 Possible z logs u (receive m) = (u < z.units) × (m < z.messages) × Sent (at logs) m × (Received (at logs) m → ⊥)

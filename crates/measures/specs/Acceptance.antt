@@ -20,7 +20,8 @@ abbrev pub Any : (Word → Type 0) → List Word → Type 0
 Any P [] = ⊥
 Any P (w ∷ ws) = P w ⊎ Any P ws
 
--- What the measure m and the answers `some` and `all` of a pattern say of words of its labels, in the words of the automaton in its bytes b.
+-- What the measure m and the answers `some` and `all` of a pattern say of words of its labels, in the words of the automaton in
+-- its bytes b.
 pub record Recognizes (b : List ℕ) (m : Meaning ℕ) (some all : ℕ → Bool) : Type 0 where
   pub labels_are : m.labels ≡ labels_in b
   -- the set carried along a word holds just the state to which the word leads

@@ -9,6 +9,7 @@ use Rattle.measures.specs.Refusals.{fault, ask, counted}
 abbrev pub first_over : ℕ → List ℕ → Option ℕ
 first_over bound xs = position (λ x. nat_le bound x) xs
 
+-- the fault of such an entry, at its byte, in a table that begins at the byte `from`
 abbrev pub over_fault : ℕ → Option ℕ → Option Fault
 over_fault from None = None
 over_fault from (Some i) = Some (fault EntryTooLarge (from + i))

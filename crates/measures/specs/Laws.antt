@@ -41,7 +41,8 @@ pub record LawOfRuns {V : Type 0} (m : Meaning V) : Type 0 where
   pub order_free : (n k limit : ℕ) (cs ds : List Call) → SameByUnit (accepted (carrying m n) (sized m n k limit) cs) (accepted (carrying m n) (sized m n k limit) ds)
       → OrderFree (carrying m n) (sized m n k limit) cs ds
 
--- What two answers of a judge say of the longest flows that end at place i of unit u: some is yes exactly when one of them is good, all exactly when each is.
+-- What two answers of a judge say of the longest flows that end at place i of unit u: some is yes exactly when one of them is
+-- good, all exactly when each is.
 pub record Judged (good : Word → Type 0) (some all : Bool) (ev : Events) (u i : ℕ) : Type 0 where
   pub some_flow : IsTrue some ↔ ((f : List Place) × Longest ev u i f × good (word ev f))
   pub all_flows : IsTrue all ↔ ((f : List Place) → Longest ev u i f → good (word ev f))

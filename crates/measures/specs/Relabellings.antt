@@ -7,6 +7,7 @@ use Rattle.measures.specs.Measures.{Meaning}
 abbrev pub translated_label : List ℕ → ℕ → Letter → Letter
 translated_label entries n l = if nat_lt (slice_index entries l) n then slice_index entries l else 0
 
+-- a word with each label translated
 abbrev pub translated : List ℕ → ℕ → Word → Word
 translated entries n w = map (translated_label entries n) w
 

@@ -4,6 +4,7 @@ use Rattle.std.proofs.Common.{rules}
 use Rattle.measures.specs.declared.spans.Ends.{Ends}
 use Rattle.measures.specs.Measures.{Meaning, Lawful}
 
+-- the ends of a span
 abbrev pub ends : ℕ → ℕ → Ends
 ends a b = record { shortest = a; longest = b }
 

@@ -18,7 +18,8 @@ module _ {V : Type 0} (m : Meaning V) where
   gathered r zero = None
   gathered r (suc j) = if (r j).flag then plus (gathered r j) (Some (r j).value) else gathered r j
 
-  -- What a mark of unit u with label l is worth: the join of the flagged values, or start if there are none, stepped by the mark's letter.
+  -- What a mark of unit u with label l is worth: the join of the flagged values, or start if there are none, stepped by the
+  -- mark's letter.
   abbrev pub worth : ℕ → (ℕ → Cell V) → ℕ → ℕ → V
   worth n r u l = m.step (unwrap_or (gathered r n) m.start) (letter_of u l)
 

@@ -6,6 +6,7 @@ ghost use Rattle.measures.specs.Words.{Word};
 
 use super::Measure;
 
+// A judge: a measure that says of each value whether some, and whether all, of the words that it stands for are good.
 pub trait Judge: Measure {
     // the words that it means
     ghost good: { Self → Word → Type 0 };

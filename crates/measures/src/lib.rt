@@ -36,15 +36,19 @@ pub trait Measure {
     // the values on which it is lawful
     ghost admits: { Self → Self.Value → Type 0 };
 
+    // The number of labels.
     fn labels(&self) -> u8
         ensures { result ≡ (meaning self.now).labels };
 
+    // The value before any label.
     fn start(&self) -> Self::Value
         ensures { result ≡ (meaning self.now).start };
 
+    // The value after one more label.
     fn step(&self, v: Self::Value, l: u8) -> Self::Value
         ensures { result ≡ (meaning self.now).step v l };
 
+    // The value of the words of both.
     fn join(&self, a: Self::Value, b: Self::Value) -> Self::Value
         ensures { result ≡ (meaning self.now).join a b };
 
@@ -54,7 +58,7 @@ pub trait Measure {
 // The measure carried along a word of labels. It goes through joins (`carries`), and in every run of a board the value told at each
 // accepted mark is the join of what it makes of the words of the longest flows that end there, each taken once, whatever the order of the
 // calls (`runs`).
-#[tactic(auto, using(crate::proofs::Carrying::carried_more))]
+#[tactic(auto, using(crate::proofs::Carrying::carried_more, crate::proofs::Carrying::carries))]
 pub fn carry<M: Measure>(m: &M, word: &[u8]) -> M::Value
     ensures value { result ≡ carried (M.meaning m.now) word.now }
     ensures carries { Carries (M.meaning m.now) (M.admits m.now) }

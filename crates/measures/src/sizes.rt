@@ -10,7 +10,7 @@ pub(crate) struct Count {
 }
 
 impl Count {
-    // The number as a count, or none outside 1 to 64.
+    // The number as a count, or none outside 1 to 64. No `TryFrom`: states and labels have a refusal each, which the caller knows.
     pub(crate) fn new(number: u8) -> Option<Count>
         ensures { MatchOption result (counted number ≡ false) (λ n. (counted number ≡ true) × (n.number ≡ number)) }
     {

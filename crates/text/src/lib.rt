@@ -22,7 +22,7 @@ pub struct Hex {
 }
 
 impl Hex {
-    // The digits of `word`, which read back as it.
+    // The word to be printed; its digits read back as that word.
     #[tactic(auto, using(crate::proofs::HexText::hex_word_length, crate::proofs::HexText::hex_word_reads))]
     pub fn new(word: u64) -> Hex
         ensures word { result.word ≡ word }
@@ -54,7 +54,7 @@ pub fn push_decimal(out: &mut Vec<u8>, n: usize) -> Result<(), AllocError>
     out.extend_from_slice(digits)
 }
 
-// Appends `word` as 16 hexadecimal digits, lower case and highest first, which read back as `word`.
+// Appends `word` as 16 hexadecimal digits, lower case and highest first, which read back as that word.
 // If there is no memory for them, `out` is unchanged.
 #[tactic(auto, using(crate::proofs::HexText::hex_word_length, crate::proofs::HexText::hex_word_reads, crate::proofs::HexText::word_bytes))]
 pub fn push_hex(out: &mut Vec<u8>, word: u64) -> Result<(), AllocError>

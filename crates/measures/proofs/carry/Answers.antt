@@ -1,9 +1,5 @@
-use Rattle.measures.proofs.Carrying.{carries}
 use Rattle.measures.proofs.Valuing.{law_of_runs}
 use Rattle.measures.proofs.carry.Goals as goal
-
-pub returns-clause-carries : goal.returns-clause-carries
-returns-clause-carries g c = carries (g.M.Measure.meaning c.args.m.now) (g.M.Measure.admits c.args.m.now) (g.met.M.Measure.lawful c.args.m.now)
 
 pub returns-clause-runs : goal.returns-clause-runs
 returns-clause-runs g c = law_of_runs (g.M.Measure.meaning c.args.m.now) (g.M.Measure.admits c.args.m.now) (g.met.M.Measure.lawful c.args.m.now)

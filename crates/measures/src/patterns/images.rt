@@ -17,6 +17,7 @@ impl Pattern {
     }
 
     // The states to which the table takes the members of the set that are states, under the label l.
+    // It goes over the numbers of the states, since a set has its members as bits of a word: a rule of the project.
     #[tactic(auto, using(crate::specs::Images::image_is))]
     pub(super) fn image(&self, set: u64, l: u8) -> u64
         requires { l < self.now.head.labels.number }
