@@ -44,7 +44,7 @@ pub trait Measure {
     fn start(&self) -> Self::Value
         ensures { result ≡ (meaning self.now).start };
 
-    // The value after one more label.
+    // The value after one more label. Each measure asks itself whether it has the label: a guard in the trait would be a second step.
     fn step(&self, v: Self::Value, l: u8) -> Self::Value
         ensures { result ≡ (meaning self.now).step v l };
 
