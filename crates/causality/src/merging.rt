@@ -37,9 +37,8 @@ impl<V: Copy> Cell<V> {
     }
 }
 
-// A unit's cell merged with a message's: the one with the larger clock. At equal clocks both tell of one mark: the flag is yes
-// only if both
-// are, and where it is no the value becomes `start`.
+// A unit's cell merged with a message's: the one with the larger clock. At equal clocks both tell of one mark: the flag is yes only if
+// both are, and where it is no the value becomes `start`.
 pub fn merge_cell<V: Copy>(start: V, own: Cell<V>, other: Cell<V>) -> Cell<V>
     ensures { cell result ≡ merged_cell start (cell own) (cell other) }
 {

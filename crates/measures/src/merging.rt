@@ -9,9 +9,8 @@ use super::Measure;
 use causality::{Cell, Clock, merge_cell, rows_to_merge};
 use grid::{Grid, GridError, RowPair, put};
 
-// The value of a unit's cell merged with a message's: that of the cell with the larger clock. At equal clocks both tell of one
-// mark, whose
-// value is kept where both flags are yes, and start where it is not.
+// The value of a unit's cell merged with a message's: that of the cell with the larger clock. At equal clocks both tell of one mark,
+// whose value is kept where both flags are yes, and start where it is not.
 pub fn merge_value<M: Measure>(m: &M, own: Cell<M::Value>, other: Cell<M::Value>) -> M::Value
     ensures { result ≡ (merged_cell (M.meaning m.now).start (cell own) (cell other)).value }
 {
