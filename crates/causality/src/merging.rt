@@ -19,6 +19,7 @@ pub struct Cell<V> {
 
 impl<V: Copy> Cell<V> {
     // The cell at a place of clocks, flags and values; past an end the clock is 0, the flag no, and the value `start`.
+    // Three slices of their own: the caller lends each memory apart, by a rule of the project.
     pub fn at(start: V, clocks: &[Clock], flags: &[bool], values: &[V], place: usize) -> Cell<V>
         ensures { cell result ≡ cell_at start clocks.now flags.now values.now place }
     {
@@ -57,6 +58,7 @@ pub fn merge_cell<V: Copy>(start: V, own: Cell<V>, other: Cell<V>) -> Cell<V>
 }
 
 // Merges cell j of row `from` into cell j of row `to`; the other row's cell is taken out by value first.
+// No twin of the column of values: that one reads clocks and flags, which this one writes, and each memory is lent on its own.
 #[tactic(auto, using(grid::proofs::Cells::put_at))]
 fn merge_column(clocks: &mut [Clock], flags: &mut [bool], rows: RowPair, j: usize)
     requires column { j < rows.width }

@@ -6,11 +6,8 @@ pub const PATTERN: [u8; 27] = [
     0x20, 5, 3, 0, 0x08, 0, 0, 0, 0, 0, 0, 0, 4, 1, 4, 2, 1, 4, 2, 1, 3, 4, 1, 4, 4, 4, 4,
 ];
 
-// The pattern, and a relabelling: 0 waiting, 1 sound, 2 beacon.
-const RELABELLED: [u8; 32] = [
-    0x20, 5, 3, 0, 0x08, 0, 0, 0, 0, 0, 0, 0, 4, 1, 4, 2, 1, 4, 2, 1, 3, 4, 1, 4, 4, 4, 4, 0x30, 3,
-    1, 2, 0,
-];
+// A relabelling: 0 waiting, 1 sound, 2 beacon.
+const RELABELLING: [u8; 5] = [0x30, 3, 1, 2, 0];
 
 // One byte changed: its place and the new byte, and the refusal's number and place.
 const BAD_PATTERNS: [(usize, u8, u8, usize); 16] = [
@@ -43,6 +40,14 @@ const BAD_RELABELLINGS: [(usize, u8, u8, usize); 8] = [
     (30, 255, 20, 30),
     (31, 3, 20, 31),
 ];
+
+// The pattern, and the relabelling after it.
+fn relabelled() -> [u8; 32] {
+    let mut bytes = [0; 32];
+    bytes[..27].copy_from_slice(&PATTERN);
+    bytes[27..].copy_from_slice(&RELABELLING);
+    bytes
+}
 
 // The number and place of a fault.
 fn told(fault: Fault) -> (u8, usize) {
@@ -86,13 +91,13 @@ fn patterns_cut_short(rt: HostRuntime) {
     assert_eq!(rt; pattern_answer(&PATTERN[0..12]), Err((19, 12)));
     assert_eq!(rt; pattern_answer(&PATTERN[0..26]), Err((19, 26)));
     assert_eq!(rt; pattern_answer(&PATTERN), Ok(27));
-    assert_eq!(rt; pattern_answer(&RELABELLED), Ok(27));
+    assert_eq!(rt; pattern_answer(&relabelled()), Ok(27));
 }
 
 #[test]
 fn relabellings_with_one_bad_byte(rt: HostRuntime) {
     for (at, byte, number, place) in BAD_RELABELLINGS {
-        let mut bytes = RELABELLED;
+        let mut bytes = relabelled();
         if let Some(old) = bytes.get_mut(at) {
             *old = byte;
         }
@@ -102,9 +107,9 @@ fn relabellings_with_one_bad_byte(rt: HostRuntime) {
 
 #[test]
 fn relabellings_cut_short(rt: HostRuntime) {
-    assert_eq!(rt; relabelling_answer(&RELABELLED[0..27]), Err((22, 27)));
-    assert_eq!(rt; relabelling_answer(&RELABELLED[0..28]), Err((19, 28)));
-    assert_eq!(rt; relabelling_answer(&RELABELLED[0..29]), Err((19, 29)));
-    assert_eq!(rt; relabelling_answer(&RELABELLED[0..31]), Err((19, 31)));
-    assert_eq!(rt; relabelling_answer(&RELABELLED), Ok(5));
+    assert_eq!(rt; relabelling_answer(&relabelled()[0..27]), Err((22, 27)));
+    assert_eq!(rt; relabelling_answer(&relabelled()[0..28]), Err((19, 28)));
+    assert_eq!(rt; relabelling_answer(&relabelled()[0..29]), Err((19, 29)));
+    assert_eq!(rt; relabelling_answer(&relabelled()[0..31]), Err((19, 31)));
+    assert_eq!(rt; relabelling_answer(&relabelled()), Ok(5));
 }

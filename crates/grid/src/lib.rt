@@ -20,6 +20,7 @@ pub struct Grid<'a, T> {
 }
 
 // Two rows of `width` cells, one that is read and one that is written.
+// That both lie within a memory is no part of the type: it speaks of memory that the caller lends apart.
 #[derive(Clone, Copy, PartialEq, Eq, Debug)]
 pub struct RowPair {
     pub width: usize,
@@ -49,20 +50,18 @@ impl<T: Copy> Grid<'_, T> {
         start <= self.cells.len() && self.width <= self.cells.len() - start
     }
 
-    // Two rows that are both there.
+    // Two rows that are both there. Callers have two numbers: a pair before it is known to be there is no plainer.
     pub fn row_pair(&self, from: usize, to: usize) -> Result<RowPair, GridError>
         ensures answer { result ≡ ask (has_rows self.now from to) NoSuchRow (Ok (row_pair self.now from to)) }
         ensures inside { IfOk result (λ rows. LieWithin rows (length self.now.cells.now)) }
     {
-        if self.has_row(from) && self.has_row(to) {
-            Ok(RowPair {
-                width: self.width,
-                from,
-                to,
-            })
-        } else {
-            Err(GridError::NoSuchRow)
-        }
+        self.start_of(from)?;
+        self.start_of(to)?;
+        Ok(RowPair {
+            width: self.width,
+            from,
+            to,
+        })
     }
 
     // One cell, by value; none where the row or the column is not there.

@@ -44,7 +44,8 @@ pub trait Measure {
     fn start(&self) -> Self::Value
         ensures { result ≡ (meaning self.now).start };
 
-    // The value after one more label. Each measure asks itself whether it has the label: a guard in the trait would be a second step.
+    // The value after one more label. A measure whose step uses the label asks itself whether it has it: a guard in the trait would
+    // be a second step, and no plainer.
     fn step(&self, v: Self::Value, l: u8) -> Self::Value
         ensures { result ≡ (meaning self.now).step v l };
 

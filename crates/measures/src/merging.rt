@@ -18,6 +18,7 @@ pub fn merge_value<M: Measure>(m: &M, own: Cell<M::Value>, other: Cell<M::Value>
 }
 
 // Merges the value of cell j of row `from` into that of row `to`; the other row's cell is taken out by value first.
+// No twin of the column of clocks and flags: that one writes what this one reads, and each memory is lent on its own.
 #[tactic(auto, using(grid::proofs::Cells::put_at))]
 fn merge_value_column<M: Measure>(
     m: &M,

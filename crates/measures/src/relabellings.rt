@@ -10,7 +10,7 @@ use super::refusals::{Fault, Refusal};
 use super::sizes::Count;
 use super::tables::{Rest, with_zeros};
 
-// The inner label of each label; the first `count` entries are used. Its memory is fixed, since nothing here allocates.
+// The inner label of each label; the first `count` entries are used. A plain struct of 64 entries with their count: a rule of the project.
 #[derive(Clone, Copy)]
 struct LabelTable {
     entries: [u8; 64],
@@ -25,7 +25,7 @@ pub struct Relabelling<M: Measure> {
 }
 
 impl LabelTable {
-    // The entry of l, or 0 where that is none of the n inner labels.
+    // The entry of l, or 0 where that is none of the n inner labels: the rule of a relabelling, and no sign that something is missing.
     fn inner_label(&self, l: u8, n: u8) -> u8
         requires { l < self.now.count.number }
         ensures { result ≡ translated_label self.now.entries n l }
@@ -65,7 +65,7 @@ impl LabelTable {
 }
 
 impl<M: Measure> Relabelling<M> {
-    // The relabelling to the labels of `inner` whose bytes begin at the byte `at` of the input.
+    // The relabelling to the labels of `inner` whose bytes begin at the byte `at` of the input: the two as callers have them.
     pub fn read(input: &[u8], at: usize, inner: M) -> Result<Relabelling<M>, Fault>
     where
         M: Drop,
