@@ -1,16 +1,9 @@
 -- What the library lacks on the bits of a word.
 use Rattle.std.proofs.Common.{◌≡◌, ℕ, ◌^◌, ◌<◌, sym, arith, inl, inr}
 use Rattle.std.proofs.lemmas.Bool.{cases_eq}
-use Rattle.std.proofs.lemmas.Nat.Bits.{bit_at_or, bit_at-zero, bit_at-pow_same, bit_at-pow_other, same_from_bits}
+use Rattle.std.proofs.lemmas.Nat.Bits.{bit_at_or, bit_at-pow_other, same_from_bits}
 use lib.Bits.{bit_or, or_add_and, and_le_r}
-use Rattle.bitset.specs.Sets.{bit, Member}
-
--- the library's bit_at-zero and bit_at-pow_same, under the names that measures/specs cites
-pub bit_zero : (q : ℕ) → bit 0 q ≡ 0
-bit_zero q = bit_at-zero q
-
-pub bit_pow_self : (p : ℕ) → Member p (2 ^ p)
-bit_pow_self p = bit_at-pow_same p
+use Rattle.bitset.specs.Sets.{Member}
 
 -- the only number in 2 ^ p is p
 pub bit_pow : (p q : ℕ) → Member q (2 ^ p) → p ≡ q

@@ -6,7 +6,8 @@ use Rattle.std.proofs.lemmas.Nat.{mul-add-lt, or_comm, or_lt}
 use Rattle.std.proofs.lemmas.Bool.{cond_both, cond-false, lt-ltb, le-ltb, ltb-true}
 use Rattle.std.proofs.lemmas.Bool.Decides.{same_from_decides, Decides-at, Decides-like, Decides-or, Decides-and}
 use Rattle.bitset.specs.Sets.{Member, meets, within}
-use Rattle.bitset.proofs.Bits.{bit_pow, bit_pow_self, or_assoc, or_pos}
+use Rattle.std.proofs.lemmas.Nat.Bits.{bit_at-pow_same}
+use Rattle.bitset.proofs.Bits.{bit_pow, or_assoc, or_pos}
 use Rattle.bitset.proofs.Members.{member_or, or_member_left, or_member_right, meets_members, within_members}
 use Rattle.measures.specs.Words.{Word, Labels}
 use Rattle.measures.specs.Measures.{Lawful, carried_from, carried}
@@ -16,7 +17,7 @@ use Rattle.measures.specs.Images.{image_or, image_pow, image_below, image_pos}
 
 -- the only member of 2 ^ q is q
 pub only_member : (q k : ℕ) → Member k (2 ^ q) ↔ (q ≡ k)
-only_member q k = (bit_pow q k, λ e. subst (λ (j : ℕ). Member j (2 ^ q)) e (bit_pow_self q))
+only_member q k = (bit_pow q k, λ e. subst (λ (j : ℕ). Member j (2 ^ q)) e (bit_at-pow_same q))
 
 pub meets_or : (f a b : ℕ) → meets (bit_or a b) f ≡ (meets a f || meets b f)
 meets_or f a b =
@@ -39,13 +40,13 @@ pub meets_one : (f q : ℕ) → Decides (meets (2 ^ q) f) (Member q f)
 meets_one f q =
     Decides-like (meets (2 ^ q) f)
     (λ p. subst (λ (k : ℕ). Member k f) (sym (bit_pow q p.0 p.1)) p.2)
-    (λ m. (q, bit_pow_self q, m))
+    (λ m. (q, bit_at-pow_same q, m))
     (meets_members (2 ^ q) f)
 
 pub within_one : (f q : ℕ) → Decides (within (2 ^ q) f) (Member q f)
 within_one f q =
     Decides-like (within (2 ^ q) f)
-    (λ p. p q (bit_pow_self q))
+    (λ p. p q (bit_at-pow_same q))
     (λ m k i. subst (λ (j : ℕ). Member j f) (bit_pow q k i) m)
     (within_members (2 ^ q) f)
 

@@ -3,7 +3,8 @@ use Rattle.std.specs.Prelude.{◌≡◌, ℕ, zero, suc, ◌^◌, ◌<◌, bit_o
 use Rattle.std.proofs.Common.{ap, sym, subst, ◌∙◌, inl, inr, ⊎_elim, arith}
 use Rattle.std.proofs.lemmas.Bool.{cases_lt, cond-true, cond-false, eq-eqb, ne_eqb, ltb-true, lt-ltb}
 use Rattle.bitset.specs.Sets.{bit, Member, has}
-use Rattle.bitset.proofs.Bits.{bit_zero, bit_pow, bit_pow_self}
+use Rattle.std.proofs.lemmas.Nat.Bits.{bit_at-zero, bit_at-pow_same}
+use Rattle.bitset.proofs.Bits.{bit_pow}
 use Rattle.bitset.proofs.Members.{cases_bit, same_members, member_or, or_member_left, or_member_right, some_member, member_pos, below_members}
 use Rattle.measures.specs.Automata.{image, Image}
 
@@ -29,7 +30,7 @@ module _ (f : ℕ → ℕ) where
         | inr l ↦
             let e : n ≡ p = omega arith in
             let here : Member n set = subst (λ (k : ℕ). Member k set) (sym e) m in
-            let to : Member (f p) (2 ^ f n) = subst (λ (k : ℕ). Member (f p) (2 ^ f k)) (sym e) (bit_pow_self (f p)) in
+            let to : Member (f p) (2 ^ f n) = subst (λ (k : ℕ). Member (f p) (2 ^ f k)) (sym e) (bit_at-pow_same (f p)) in
             subst (Member (f p)) (sym (image_taken n set here)) (or_member_right (image f n set) (2 ^ f n) (f p) to)
       ]
 
@@ -42,7 +43,7 @@ module _ (f : ℕ → ℕ) where
       ]
 
   image_from : (n set q : ℕ) → Member q (image f n set) → (p : ℕ) × (p < n) × Member p set × (f p ≡ q)
-  image_from zero set q m = absurd (omega (arith, bit_zero q))
+  image_from zero set q m = absurd (omega (arith, bit_at-zero q))
   image_from (suc n) set q m =
       image_from_one_more n set q (λ k. let r = image_from n set q k in (r.0, omega (arith, r.1), r.2, r.3)) m
 
@@ -71,8 +72,8 @@ module _ (f : ℕ → ℕ) where
       same_members (image f n (2 ^ p)) (2 ^ f p)
       (λ q m.
       let r = image_from n (2 ^ p) q m in
-      subst (λ (k : ℕ). Member k (2 ^ f p)) (ap f (bit_pow p r.0 r.2) ∙ r.3) (bit_pow_self (f p)))
-      (λ q m. subst (λ (k : ℕ). Member k (image f n (2 ^ p))) (bit_pow (f p) q m) (image_into n (2 ^ p) p h (bit_pow_self p)))
+      subst (λ (k : ℕ). Member k (2 ^ f p)) (ap f (bit_pow p r.0 r.2) ∙ r.3) (bit_at-pow_same (f p)))
+      (λ q m. subst (λ (k : ℕ). Member k (image f n (2 ^ p))) (bit_pow (f p) q m) (image_into n (2 ^ p) p h (bit_at-pow_same p)))
 
   pub image_below : (n set k : ℕ) → ((p : ℕ) → p < n → f p < k) → image f n set < 2 ^ k
   image_below n set k h =
