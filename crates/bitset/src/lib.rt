@@ -2,8 +2,8 @@
 // A rule of the project asks for plain words, with shifts and masks.
 #![tactic(auto)]
 
-ghost use Rattle.std.specs.Prelude.{◌≡◌, ℕ, ◌^◌, ◌<◌, ◌&&◌, ◌||◌, if◌then◌else◌, ◌↔◌, IsTrue, bit_or, nat_lt};
-ghost use Rattle.bitset.specs.Sets.{Member, has, meets, within};
+ghost use Rattle.std.specs.Prelude.{◌≡◌, ℕ, ◌^◌, ◌<◌, ◌&&◌, ◌||◌, false, if◌then◌else◌, length, ◌↔◌, IsTrue, bit_or, min, nat_lt, slice_index_or};
+ghost use Rattle.bitset.specs.Sets.{Member, has, meets, within, those};
 
 // Whether q is in the set; a number from 64 on is in none.
 pub fn contains(set: u64, q: u8) -> bool
@@ -53,4 +53,17 @@ pub fn is_below(set: u64, n: u8) -> bool
     ensures members { IsTrue result ↔ ((q : ℕ) → Member q set → q < n) }
 {
     n >= 64 || set >> n == 0
+}
+
+// The places, below 64, whose flag is yes.
+pub fn positions(flags: &[bool]) -> u64
+    ensures { result ≡ those (λ q. slice_index_or flags.now q false) (min (length flags.now) 64) }
+{
+    let mut set = 0;
+    for q in 0..flags.len().min(64) as u8 {
+        if flags[q as usize] {
+            set = insert(set, q);
+        }
+    }
+    set
 }

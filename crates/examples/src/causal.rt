@@ -1,8 +1,10 @@
-// Messages that move on, stamps that are compared, and rows that are merged.
+// Messages that move on, stamps that are compared, rows that are copied and merged, and what marks are worth.
+use super::reading::PATTERN;
+use bitset::positions;
 use causality::{Cell, Stamp, compare, merge_cell, merge_rows};
 use grid::{Grid, GridError};
 use history::{Handling, Post};
-use measures::{FlowCount, merge_value, merge_values};
+use measures::{Ends, FlowCount, Pattern, Span, mark_value, merge_value, merge_values};
 use std::test::Fail;
 
 // The number of the state that a message moves to, or the refusal's.
@@ -144,5 +146,76 @@ fn two_messages_from_one_mark(rt: HostRuntime) -> Result<(), Fail> {
         Ok(())
     );
     assert_eq!(rt; values, [3, 4, 5, 1, 3, 4, 9]);
+    Ok(())
+}
+
+// A mark joins the values of its immediate predecessors; one that has none begins a flow.
+#[test]
+fn marks_join_the_flows_before_them(rt: HostRuntime) -> Result<(), Fail> {
+    let flags = [true, false, true];
+    let count = FlowCount::new(1)?;
+    let span = Span::new(3, 9)?;
+    let pattern = Pattern::read(&PATTERN)?;
+    let short = Ends {
+        shortest: 1,
+        longest: 1,
+    };
+    let long = Ends {
+        shortest: 2,
+        longest: 3,
+    };
+    assert_eq!(rt; positions(&flags), 5);
+    assert_eq!(rt; positions(&[false; 3]), 0);
+    assert_eq!(rt; positions(&[true; 65]), u64::MAX);
+    assert_eq!(rt; mark_value(&count, &flags, &[2, 7, 1], 0), 3);
+    assert_eq!(rt; mark_value(&count, &[false; 3], &[2, 7, 1], 0), 1);
+    assert_eq!(rt;
+        mark_value(&span, &flags, &[short, Ends::default(), long], 2),
+        Ends {
+            shortest: 2,
+            longest: 4,
+        }
+    );
+    assert_eq!(rt; mark_value(&pattern, &flags, &[0x02, 0x01, 0x04], 2), 0x18);
+    assert_eq!(rt;
+        mark_value(&pattern, &[false; 3], &[0x02, 0x01, 0x04], 1),
+        0x02
+    );
+    Ok(())
+}
+
+// One grid type for state sets and for spans: a new row, a send that copies one and a receipt that takes what is newer.
+#[test]
+fn rows_of_every_kind(rt: HostRuntime) -> Result<(), Fail> {
+    let pattern = Pattern::read(&PATTERN)?;
+    let span = Span::new(3, 9)?;
+    let mut clocks = [0, 0, 0, 2, 0, 2];
+    let mut flags = [false, false, false, true, false, true];
+    let mut sets = [9, 9, 0x01, 0x04, 9, 9, 9];
+    let mut ends = [Ends::default(); 7];
+    let clock_rows = Grid::new(&mut clocks, 2);
+    let flag_rows = Grid::new(&mut flags, 2);
+    let mut set_rows = Grid::new(&mut sets, 2);
+    assert_eq!(rt; set_rows.fill_row(0, 0x01), Ok(()));
+    assert_eq!(rt; set_rows.copy_row(1, 2), Ok(()));
+    assert_eq!(rt; set_rows.copy_row(3, 2), Err(GridError::NoSuchRow));
+    assert_eq!(rt;
+        merge_values(&pattern, &clock_rows, &flag_rows, &mut set_rows, 2, 0),
+        Ok(())
+    );
+    assert_eq!(rt; sets, [0x01, 0x04, 0x01, 0x04, 0x01, 0x04, 9]);
+    let mut end_rows = Grid::new(&mut ends, 2);
+    let two = Ends {
+        shortest: 2,
+        longest: 2,
+    };
+    assert_eq!(rt; end_rows.set_cell(2, 1, two), Ok(()));
+    assert_eq!(rt; end_rows.set_cell(2, 2, two), Err(GridError::NoSuchColumn));
+    assert_eq!(rt;
+        merge_values(&span, &clock_rows, &flag_rows, &mut end_rows, 2, 0),
+        Ok(())
+    );
+    assert_eq!(rt; ends[1], two);
+    assert_eq!(rt; ends[0], Ends::default());
     Ok(())
 }

@@ -9,6 +9,7 @@ ghost use Rattle.measures.specs.Measures.{Meaning, Lawful, carried, Carries};
 
 pub mod counts;
 pub mod judges;
+pub mod marking;
 pub mod merging;
 pub mod patterns;
 pub mod refusals;
@@ -19,6 +20,7 @@ mod tables;
 
 pub use counts::FlowCount;
 pub use judges::{Judge, Verdict, verdicts};
+pub use marking::mark_value;
 pub use merging::{merge_value, merge_values};
 pub use patterns::Pattern;
 pub use refusals::{Fault, Refusal};
