@@ -31,10 +31,11 @@ merged start clocks flags values rows =
 abbrev pub merged_bare : List ℕ → List Bool → RowPair → ℕ → Cell (Unit {0})
 merged_bare clocks flags rows = merged {V = Unit {0}} tt clocks flags [] rows
 
--- all clocks and all flags, once row `from` is merged into row `to`
+-- all clocks, once row `from` is merged into row `to`
 abbrev pub merged_clocks : List ℕ → List Bool → RowPair → List ℕ
 merged_clocks clocks flags rows = with_cells clocks rows (λ j. (merged_bare clocks flags rows j).clock) rows.width
 
+-- all flags, once row `from` is merged into row `to`
 abbrev pub merged_flags : List ℕ → List Bool → RowPair → List Bool
 merged_flags clocks flags rows = with_cells flags rows (λ j. (merged_bare clocks flags rows j).flag) rows.width
 

@@ -50,6 +50,7 @@ module _ {V : Type 0} (M : Payload V) where
   abbrev pub new_state : State V
   new_state = record { rows = λ u. new_row M.start; message_rows = λ m. new_row M.start; posts = λ m. Unsent }
 
+  -- A new board, and nothing done.
   abbrev pub new_history : History V
   new_history = record { state = new_state; log = silence; told = silence }
 
@@ -73,6 +74,7 @@ module _ {V : Type 0} (M : Payload V) where
     answer_to u (receive m) before after = own_clock (after u).clock
     answer_to u (mark l) before after = marked (after u).clock (those (λ j. (before j).flag) z.units) (after u).value
 
+    -- the reply to an accepted call
     abbrev pub reply : ℕ → Event → (ℕ → Cell V) → (ℕ → Cell V) → Reply V
     reply u e before after = record { answer = answer_to u e before after; stamp = λ v. (after v).clock }
 
@@ -94,6 +96,7 @@ module _ {V : Type 0} (M : Payload V) where
           h.told;
     }
 
+    -- the history after a list of calls more
     abbrev pub run_from : History V → List Call → History V
     run_from h [] = h
     run_from h (c ∷ cs) = run_from (after h c) cs
@@ -102,6 +105,7 @@ module _ {V : Type 0} (M : Payload V) where
     abbrev pub run : List Call → History V
     run cs = run_from new_history cs
 
+    -- the calls of a list that are accepted after a history
     abbrev pub accepted_from : History V → List Call → List Call
     accepted_from h [] = []
     accepted_from h (c ∷ cs) = if_taken (refusal h.state c.unit c.act) (c ∷ accepted_from (after h c) cs) (accepted_from (after h c) cs)

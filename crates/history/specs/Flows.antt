@@ -37,6 +37,7 @@ letter u (Some (send m)) = 0
 letter u (Some (receive m)) = 0
 letter u (Some (mark l)) = letter_of u l
 
+-- the letter of what stands at a place
 abbrev pub letter_at : Events → Place → Letter
 letter_at ev x = letter x.0 (ev x.0 x.1)
 

@@ -55,6 +55,7 @@ pub record OrderFree {V : Type 0} (M : Payload V) (z : Size) (cs ds : List Call)
   pub one_more : (c : Call) → outcome M z (run M z cs).state c ≡ outcome M z (run M z ds).state c
   pub one_more_alike : (c : Call) → Alike (run M z (cs ++ c ∷ [])) (run M z (ds ++ c ∷ []))
 
+-- This is so for any two lists whose accepted calls are the same unit by unit.
 abbrev pub RunsOrderFree : Type 0 → Type 0
 RunsOrderFree V =
     (M : Payload V) (z : Size) (cs ds : List Call) → SameByUnit (accepted M z cs) (accepted M z ds) → OrderFree M z cs ds
@@ -73,6 +74,7 @@ pub record AcceptsRuns {V : Type 0} (M : Payload V) (z : Size) (cs : List Call) 
   -- the state of each message is what the events say
   pub posts_stated : (m : ℕ) → Stated (happened M z cs) m ((run M z cs).state.posts m)
 
+-- This is so for any list of calls.
 abbrev pub AcceptedAreRuns : Type 0 → Type 0
 AcceptedAreRuns V = (M : Payload V) (z : Size) (cs : List Call) → AcceptsRuns M z cs
 
@@ -91,5 +93,6 @@ pub record BareAlike {V W : Type 0} (M : Payload V) (N : Payload W) (z : Size) (
   pub clocks : (u j : ℕ) → ((run M z cs).state.rows u j).clock ≡ ((run N z cs).state.rows u j).clock
   pub flags : (u j : ℕ) → ((run M z cs).state.rows u j).flag ≡ ((run N z cs).state.rows u j).flag
 
+-- This is so for any list of calls.
 abbrev pub PayloadFree : Type 0 → Type 0 → Type 0
 PayloadFree V W = (M : Payload V) (N : Payload W) (z : Size) (cs : List Call) → BareAlike M N z cs

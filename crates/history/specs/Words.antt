@@ -5,6 +5,7 @@ use Rattle.std.specs.Prelude.{ℕ, List}
 abbrev pub Letter : Type 0
 Letter = ℕ
 
+-- A word is a list of letters.
 abbrev pub Word : Type 0
 Word = List Letter
 
