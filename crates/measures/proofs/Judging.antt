@@ -59,7 +59,7 @@ module _ {V : Type 0} (m : Meaning V) (admits : V → Type 0) (laws : Lawful m a
           (joins v (c x) h (in' x) ∙ and_from (answer v) (answer (c x)) e (f x (inl refl))) (λ a i. f a (inr i))
 
 -- the word of a longest flow is spelled in the measure's letters
-flow_spelled : {V : Type 0} (m : Meaning V) (n k limit : ℕ) (ev : Events) → Ranged ev (sized m n k limit) → (u i : ℕ) (f : List Place) → Opens ev f → Linked ev f → Spelled m (word ev f)
+pub flow_spelled : {V : Type 0} (m : Meaning V) (n k limit : ℕ) (ev : Events) → Ranged ev (sized m n k limit) → (u i : ℕ) (f : List Place) → Opens ev f → Linked ev f → Spelled m (word ev f)
 flow_spelled m n k limit ev rg u i [] o l = tt
 flow_spelled m n k limit ev rg u i (x ∷ f) o l = spelled x f (mark_fits m n k limit ev rg x.0 x.1 o.0) l
   where

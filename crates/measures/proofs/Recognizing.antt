@@ -37,7 +37,7 @@ module _ (b : List ℕ) (states labels start finals : ℕ) (table : List ℕ) (p
   one : (w : Word) → Labels (labels_in b) w → carried (state_sets states labels start table) w ≡ 2 ^ state_after b w
   one w ls = carried_one states labels start table counted begins complete w (here w ls) ∙ ap (λ (q : ℕ). 2 ^ q) (state_read w)
 
-  member : (w : Word) → Labels (labels_in b) w → (q : ℕ) → Member q (carried (state_sets states labels start table) w) ↔ (state_after b w ≡ q)
+  pub member : (w : Word) → Labels (labels_in b) w → (q : ℕ) → Member q (carried (state_sets states labels start table) w) ↔ (state_after b w ≡ q)
   member w ls q = subst (λ (set : ℕ). Member q set ↔ (state_after b w ≡ q)) (sym (one w ls)) (only_member (state_after b w) q)
 
   -- the members of a join that begins with a set, and then has the sets of words

@@ -1,10 +1,14 @@
 -- The words that a pattern's bytes accept, and what its state sets say of them.
-use Rattle.std.specs.Prelude.{◌≡◌, ℕ, ◌^◌, Bool, ◌⊎◌, ◌↔◌, List, [], ◌∷◌, map}
+use Rattle.std.specs.Prelude.{◌≡◌, ℕ, ◌^◌, Bool, ◌⊎◌, ◌↔◌, List, [], ◌∷◌, map, Some, IsTrue}
 use Rattle.std.specs.List.{AllByRecursion}
 use Rattle.bitset.specs.Sets.{Member, has}
+use Rattle.history.specs.Events.{Events, mark}
+use Rattle.history.specs.Flows.{Place, Longest, word}
+use Rattle.history.specs.Runs.{Call}
 use Rattle.measures.specs.Words.{Word, Labels}
 use Rattle.measures.specs.Measures.{Meaning, carried, joined}
 use Rattle.measures.specs.Automata.{next, leads}
+use Rattle.measures.specs.Laws.{accepted_events, Valued, Judged}
 use Rattle.measures.specs.Formats.{labels_in, start_in, finals_in, table_in}
 
 -- the state to which a word leads the automaton in the bytes b
@@ -32,3 +36,16 @@ pub record Recognizes (b : List ℕ) (m : Meaning ℕ) (some all : ℕ → Bool)
   -- of one word, both answers say whether it is accepted
   pub some_is : (w : Word) → Labels (labels_in b) w → some (carried m w) ≡ accepts b w
   pub all_is : (w : Word) → Labels (labels_in b) w → all (carried m w) ≡ accepts b w
+
+-- What a set and two answers on it say of the longest flows that end at place i of unit u, in the words of the automaton in the bytes b.
+pub record Reaches (b : List ℕ) (ev : Events) (u i : ℕ) (set : ℕ) (some all : Bool) : Type 0 where
+  -- the set holds exactly the states to which their words lead
+  pub states : (q : ℕ) → Member q set ↔ ((f : List Place) × Longest ev u i f × (state_after b (word ev f) ≡ q))
+  -- some is yes exactly when one of their words is accepted, all exactly when each is
+  pub verdict : Judged (λ w. IsTrue (accepts b w)) some all ev u i
+
+-- So it is at each accepted mark of every run.
+abbrev pub MarksReach : List ℕ → Meaning ℕ → (ℕ → Bool) → (ℕ → Bool) → Type 0
+MarksReach b m some all =
+    (n k limit : ℕ) (cs : List Call) (u i l : ℕ) → accepted_events m n k limit cs u i ≡ Some (mark l)
+    → (v : Valued m n k limit cs u i) × Reaches b (accepted_events m n k limit cs) u i v.answered.value (some v.answered.value) (all v.answered.value)

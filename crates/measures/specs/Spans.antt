@@ -1,7 +1,11 @@
 -- The span.
-use Rattle.std.specs.Prelude.{ℕ, ◌+◌, ◌<◌, ◌≤◌, min, max, if◌then◌else◌, nat_lt}
+use Rattle.std.specs.Prelude.{◌≡◌, ℕ, ◌+◌, ◌<◌, ◌≤◌, List, length, Some, min, max, if◌then◌else◌, nat_lt}
 use Rattle.std.proofs.Common.{rules}
+use Rattle.history.specs.Events.{Events, mark}
+use Rattle.history.specs.Flows.{Place, Longest}
+use Rattle.history.specs.Runs.{Call}
 use Rattle.measures.specs.declared.spans.Ends.{Ends}
+use Rattle.measures.specs.Laws.{accepted_events, Valued}
 use Rattle.measures.specs.Measures.{Meaning, Lawful}
 
 -- the ends of a span
@@ -24,3 +28,17 @@ span n = record {
 -- it keeps the laws on the pairs of a shortest and a longest number, up to its cap
 pub span_lawful : (n : ℕ) → (0 < n) × (n ≤ 64) → Lawful (span n) (λ v. (v.shortest ≤ v.longest) × (v.longest ≤ 65535))
 span_lawful n counted = search rules
+
+-- What a span says of the longest flows that end at place i of unit u: the numbers of marks of the shortest and of the longest of them,
+-- up to the cap.
+pub record Spanned (ev : Events) (u i : ℕ) (v : Ends) : Type 0 where
+  pub shortest : (f : List Place) × Longest ev u i f × (v.shortest ≡ min (length f) 65535)
+  pub none_shorter : (f : List Place) → Longest ev u i f → v.shortest ≤ length f
+  pub longest : (f : List Place) × Longest ev u i f × (v.longest ≡ min (length f) 65535)
+  pub none_longer : (f : List Place) → Longest ev u i f → min (length f) 65535 ≤ v.longest
+
+-- So it is at each accepted mark of every run.
+abbrev pub MarksSpanned : Meaning Ends → Type 0
+MarksSpanned m =
+    (n k limit : ℕ) (cs : List Call) (u i l : ℕ) → accepted_events m n k limit cs u i ≡ Some (mark l)
+    → (v : Valued m n k limit cs u i) × Spanned (accepted_events m n k limit cs) u i v.answered.value

@@ -1,6 +1,6 @@
 // The flow count: how many flows end at a mark.
-ghost use Rattle.std.specs.Prelude.{◌≡◌, ◌^◌, ◌<◌, Some, None, MatchResult};
-ghost use Rattle.measures.specs.Counts.{flow_count, flow_count_lawful};
+ghost use Rattle.std.specs.Prelude.{◌≡◌, ◌^◌, ◌<◌, IfOk, Some, None, MatchResult};
+ghost use Rattle.measures.specs.Counts.{flow_count, flow_count_lawful, MarksCounted};
 ghost use Rattle.measures.specs.Refusals.{count_refusal};
 
 use super::Measure;
@@ -14,9 +14,11 @@ pub struct FlowCount {
 }
 
 impl FlowCount {
-    // Refuses a label count outside 1 to 64.
+    // Refuses a label count outside 1 to 64. In every run the value told at a mark is the number of the longest flows that end there (`runs`).
+    #[tactic(auto, using(crate::proofs::FlowSizes::marks_counted))]
     pub fn new(labels: u8) -> Result<FlowCount, Refusal>
-        ensures { MatchResult result (λ m. (count_refusal labels ≡ None) × (m.labels.number ≡ labels)) (λ e. count_refusal labels ≡ Some e) }
+        ensures answer { MatchResult result (λ m. (count_refusal labels ≡ None) × (m.labels.number ≡ labels)) (λ e. count_refusal labels ≡ Some e) }
+        ensures runs { IfOk result (λ m. MarksCounted (flow_count m.labels.number)) }
     {
         let labels = Count::new(labels).ok_or(Refusal::LabelCount)?;
         Ok(FlowCount { labels })

@@ -1,7 +1,7 @@
 // The span: the numbers of marks of the shortest and of the longest flow, judged by a limit.
-ghost use Rattle.std.specs.Prelude.{◌≡◌, ◌≤◌, length, Some, None, MatchResult, nat_le};
+ghost use Rattle.std.specs.Prelude.{◌≡◌, ◌≤◌, length, IfOk, Some, None, MatchResult, nat_le};
 ghost use Rattle.measures.specs.Refusals.{span_refusal};
-ghost use Rattle.measures.specs.Spans.{span, span_lawful};
+ghost use Rattle.measures.specs.Spans.{span, span_lawful, MarksSpanned};
 
 use super::Measure;
 use super::judges::Judge;
@@ -24,9 +24,11 @@ pub struct Span {
 }
 
 impl Span {
-    // Refuses a label count outside 1 to 64, and then a limit above 65,534.
+    // Refuses a label count outside 1 to 64, and then a limit above 65,534. In every run the value told at a mark has the numbers of marks of
+    // the shortest and of the longest of the flows that end there (`runs`).
     pub fn new(labels: u8, limit: u16) -> Result<Span, Refusal>
-        ensures { MatchResult result (λ m. (span_refusal labels limit ≡ None) × (m.labels.number ≡ labels) × (m.limit ≡ limit)) (λ e. span_refusal labels limit ≡ Some e) }
+        ensures answer { MatchResult result (λ m. (span_refusal labels limit ≡ None) × (m.labels.number ≡ labels) × (m.limit ≡ limit)) (λ e. span_refusal labels limit ≡ Some e) }
+        ensures runs { IfOk result (λ m. MarksSpanned (span m.labels.number)) }
     {
         let labels = Count::new(labels).ok_or(Refusal::LabelCount)?;
         if limit > 65534 {

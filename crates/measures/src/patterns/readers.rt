@@ -1,7 +1,7 @@
 // Patterns from bytes.
 ghost use Rattle.std.specs.Prelude.{◌≡◌, ◌+◌, ◌*◌, IfOk, Some, None, MatchResult};
 ghost use Rattle.bitset.specs.Sets.{meets, within};
-ghost use Rattle.measures.specs.Acceptance.{Recognizes};
+ghost use Rattle.measures.specs.Acceptance.{MarksReach, Recognizes};
 ghost use Rattle.measures.specs.Automata.{state_sets};
 ghost use Rattle.measures.specs.Formats.{head_fault, pattern_fault, states_in, labels_in, start_in, finals_in, PatternOf};
 
@@ -42,10 +42,12 @@ impl Head {
 }
 
 impl Pattern {
-    // The pattern at the front of the input.
+    // The pattern at the front of the input. The set carried along words holds the states to which they lead (`recognizes`), and in every run
+    // the set told at a mark those to which the longest flows that end there lead (`runs`).
     pub fn read(input: &[u8]) -> Result<Pattern, Fault>
         ensures answer { MatchResult result (λ p. (pattern_fault input.now ≡ None) × PatternOf input.now p.head.states.number p.head.labels.number p.head.start p.head.finals p.table) (λ f. pattern_fault input.now ≡ Some f) }
         ensures recognizes { IfOk result (λ p. Recognizes input.now (state_sets p.head.states.number p.head.labels.number p.head.start p.table) (λ set. meets set p.head.finals) (λ set. within set p.head.finals)) }
+        ensures runs { IfOk result (λ p. MarksReach input.now (state_sets p.head.states.number p.head.labels.number p.head.start p.table) (λ set. meets set p.head.finals) (λ set. within set p.head.finals)) }
     {
         let head = Head::read(input)?;
         let rest = Rest { input, place: 12 };
