@@ -1,4 +1,5 @@
-// Examples that are run: each refusal with its number and place, worked values of every measure, and worked rows and stamps.
+// Examples: each refusal with its number and place, worked values of every measure, worked rows and stamps, all of them run; and worked
+// runs, proved from the rules.
 #![tactic(auto)]
 
 #[cfg(test)]
@@ -7,3 +8,4 @@ mod causal;
 mod measuring;
 #[cfg(test)]
 mod reading;
+pub mod runs;

@@ -1,0 +1,28 @@
+-- The measure of words is lawful, so the law of runs holds under it.
+use Rattle.std.proofs.Common.{◌≡◌, ℕ, ◌+◌, ◌<◌, ◌≤◌, [], ◌∷◌, refl, arith}
+use Rattle.std.proofs.Math.Path.{fun_ext}
+use Rattle.std.proofs.lemmas.Bool.{lt-ltb, le-ltb, cond-false}
+use Rattle.measures.specs.Words.{Letter, Word}
+use Rattle.measures.specs.Measures.{Lawful}
+use Rattle.measures.specs.Laws.{LawOfRuns}
+use Rattle.measures.proofs.Valuing.{law_of_runs}
+use Rattle.examples.specs.WorkedRuns.{words, put_in_front}
+
+put_in_front_joined : (l : Letter) (f g : Word → ℕ) (w : Word) → put_in_front l (λ v. f v + g v) w ≡ put_in_front l f w + put_in_front l g w
+put_in_front_joined l f g [] = refl
+put_in_front_joined l f g (x ∷ w) = grind arith
+
+words_lawful : (n : ℕ) → (0 < n) × (n ≤ 64) → Lawful (words n) (λ f. Unit {0})
+words_lawful n counted = record {
+  counted = counted;
+  start_admitted = tt;
+  step_admitted = λ a l ha. tt;
+  join_admitted = λ a b ha hb. tt;
+  unlabelled = λ a l h. cond-false _ _ a (le-ltb l n (omega arith));
+  commutes = λ a b _ _. fun_ext (λ w. omega arith);
+  associates = λ a b c _ _ _. fun_ext (λ w. omega arith);
+  distributes = λ a b l _ _ h. rw (lt-ltb l n h) (fun_ext (put_in_front_joined l a b));
+}
+
+pub law_of_words : (n : ℕ) → (0 < n) × (n ≤ 64) → LawOfRuns (words n)
+law_of_words n counted = law_of_runs (words n) (λ f. Unit {0}) (words_lawful n counted)
