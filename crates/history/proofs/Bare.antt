@@ -1,10 +1,11 @@
 -- Clocks, flags and messages do not depend on what cells carry.
-use Rattle.std.proofs.Common.{◌≡◌, ℕ, List, [], ◌∷◌, arith}
-use Rattle.history.specs.Events.{Event, send, receive, mark}
+use Rattle.std.proofs.Common.{◌≡◌, ℕ, List, [], ◌∷◌, Some, None, Option, refl, ap, subst, arith}
+use Rattle.history.specs.declared.refusals.Refusal.{Refusal}
+use Rattle.history.specs.Events.{Event, Logs, send, receive, mark}
 use Rattle.history.specs.Rows.{Payload, Cell, put}
 use Rattle.history.specs.Runs.{Size, Call}
-use Rattle.history.specs.Board.{History, refusal, acted, after, run_from}
-use Rattle.history.specs.Laws.{BareAlike, PayloadFree}
+use Rattle.history.specs.Board.{State, History, new_history, if_taken, refusal, acted, next, after, run_from, run}
+use Rattle.history.specs.Laws.{SameBare, CarriesFreely, PayloadFree}
 
 -- two cells with the same clock and flag
 abbrev Like : {V W : Type 0} → Cell V → Cell W → Type 0
@@ -15,33 +16,82 @@ module _ {V W : Type 0} where
       → ((w j : ℕ) → Like (f w j) (g w j)) → ((j : ℕ) → Like (r j) (t j)) → (w j : ℕ) → Like (put f u r w j) (put g u t w j)
   like_put f g u r t h k w j = grind (arith, h w j, k j)
 
-  module _ (M : Payload V) (N : Payload W) where
+  -- the state that a call leaves or that was there
+  same_taken : (o : Option Refusal) (s s' : State V) (t t' : State W) → SameBare s' t' → SameBare s t → SameBare (if_taken o s' s) (if_taken o t' t)
+  same_taken None s s' t t' new old = new
+  same_taken (Some e) s s' t t' new old = old
+
+  module _ (M : Payload V) (N : Payload W) (z : Size) where
+    module _ (s : State V) (t : State W) (same : SameBare s t) where
+      same_refusal : (u : ℕ) (e : Event) → refusal M z s u e ≡ refusal N z t u e
+      same_refusal u (send m) = grind (arith, same.posts m)
+      same_refusal u (receive m) = grind (arith, same.posts m)
+      same_refusal u (mark l) = grind (arith, same.clocks u u)
+
+      rows : (w j : ℕ) → Like (s.rows w j) (t.rows w j)
+      rows w j = (same.clocks w j, same.flags w j)
+
+      message_rows : (m j : ℕ) → Like (s.message_rows m j) (t.message_rows m j)
+      message_rows m j = (same.message_clocks m j, same.message_flags m j)
+
+      -- what a unit's row becomes
+      rows_acted : (u : ℕ) (e : Event) (w j : ℕ) → Like ((acted M z s u e).rows w j) ((acted N z t u e).rows w j)
+      rows_acted u (send m) = rows
+      rows_acted u (receive m) = like_put s.rows t.rows u _ _ rows (λ j. grind (arith, rows u j, message_rows m j))
+      rows_acted u (mark l) = like_put s.rows t.rows u _ _ rows (λ j. grind (arith, rows u j))
+
+      message_rows_acted : (u : ℕ) (e : Event) (m j : ℕ) → Like ((acted M z s u e).message_rows m j) ((acted N z t u e).message_rows m j)
+      message_rows_acted u (send m) = like_put s.message_rows t.message_rows m (s.rows u) (t.rows u) message_rows (rows u)
+      message_rows_acted u (receive m) = message_rows
+      message_rows_acted u (mark l) = message_rows
+
+      posts_acted : (u : ℕ) (e : Event) (m : ℕ) → (acted M z s u e).posts m ≡ (acted N z t u e).posts m
+      posts_acted u (send n) m = grind (arith, same.posts m, same.posts n)
+      posts_acted u (receive n) m = grind (arith, same.posts m, same.posts n)
+      posts_acted u (mark l) m = same.posts m
+
+      same_acted : (u : ℕ) (e : Event) → SameBare (acted M z s u e) (acted N z t u e)
+      same_acted u e = record {
+        clocks = λ w j. (rows_acted u e w j).0;
+        flags = λ w j. (rows_acted u e w j).1;
+        message_clocks = λ m j. (message_rows_acted u e m j).0;
+        message_flags = λ m j. (message_rows_acted u e m j).1;
+        posts = posts_acted u e;
+      }
+
+      same_next : (c : Call) → SameBare (next M z s c) (next N z t c)
+      same_next c =
+          subst (λ o. SameBare (next M z s c) (if_taken o (acted N z t c.unit c.act) t)) (same_refusal c.unit c.act)
+          (same_taken (refusal M z s c.unit c.act) s (acted M z s c.unit c.act) t (acted N z t c.unit c.act) (same_acted c.unit c.act) same)
+
     -- two histories that differ in nothing but what cells carry
     record Twin (g : History V) (h : History W) : Type 0 where
-      rows : (u j : ℕ) → Like (g.state.rows u j) (h.state.rows u j)
-      message_rows : (m j : ℕ) → Like (g.state.message_rows m j) (h.state.message_rows m j)
-      posts : g.state.posts ≡ h.state.posts
+      states : SameBare g.state h.state
       logs : g.log ≡ h.log
 
-    module _ (z : Size) where
-      module _ (g : History V) (h : History W) (t : Twin g h) where
-        same_refusal : (u : ℕ) (e : Event) → refusal M z g.state u e ≡ refusal N z h.state u e
-        same_refusal u e = grind arith
+    twin_after : (g : History V) (h : History W) → Twin g h → (c : Call) → Twin (after M z g c) (after N z h c)
+    twin_after g h t c = record {
+      states = same_next g.state h.state t.states c;
+      logs = rw (same_refusal g.state h.state t.states c.unit c.act, t.logs) refl;
+    }
 
-        acted_message_rows : (u : ℕ) (e : Event) → (m j : ℕ) → Like ((acted M z g.state u e).message_rows m j) ((acted N z h.state u e).message_rows m j)
-        acted_message_rows u (send m) = like_put g.state.message_rows h.state.message_rows m (g.state.rows u) (h.state.rows u) t.message_rows (t.rows u)
-        acted_message_rows u (receive m) = t.message_rows
-        acted_message_rows u (mark l) = t.message_rows
+    twin_run : (g : History V) (h : History W) → Twin g h → (cs : List Call) → Twin (run_from M z g cs) (run_from N z h cs)
+    twin_run g h t [] = t
+    twin_run g h t (c ∷ cs) = twin_run (after M z g c) (after N z h c) (twin_after g h t c) cs
 
-        twin_after : (c : Call) → Twin (after M z g c) (after N z h c)
-        twin_after c = grind (arith, same_refusal, acted_message_rows)
+    twins : (cs : List Call) → Twin (run M z cs) (run N z cs)
+    twins cs = twin_run (new_history M) (new_history N) (record {
+      states = record { clocks = λ w j. refl; flags = λ w j. refl; message_clocks = λ m j. refl; message_flags = λ m j. refl; posts = λ m. refl };
+      logs = refl;
+    }) cs
 
-      twin_run : (g : History V) (h : History W) → Twin g h → (cs : List Call) → Twin (run_from M z g cs) (run_from N z h cs)
-      twin_run g h t [] = t
-      twin_run g h t (c ∷ cs) = twin_run (after M z g c) (after N z h c) (twin_after g h t c) cs
-
-      pub bare_alike : (cs : List Call) → BareAlike M N z cs
-      bare_alike cs = grind (arith, twin_run)
+    pub carries_freely : CarriesFreely M N z
+    carries_freely = record {
+      refusals = same_refusal;
+      step = same_next;
+      logs = λ cs u. ap (λ (log : Logs). log u) (twins cs).logs;
+      states = λ cs. (twins cs).states;
+    }
 
 pub payload_free : (V W : Type 0) → PayloadFree V W
-payload_free V W M N z cs = bare_alike M N z cs
+payload_free V W M N z = carries_freely M N z

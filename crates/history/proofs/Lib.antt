@@ -11,6 +11,7 @@ pub mod Lists
 pub mod Logs
 pub mod Marking
 pub mod OrderFree
+pub mod Outcomes
 pub mod Past
 pub mod Posts
 pub mod Preceding

@@ -1,5 +1,5 @@
 -- A run's history depends on nothing but its logs.
-use Rattle.std.proofs.Common.{◌≡◌, ℕ, ◌⊎◌, List, [], ◌∷◌, ◌++◌, sym, refl, ◌∙◌, ⊎_elim, arith}
+use Rattle.std.proofs.Common.{◌≡◌, ℕ, ◌⊎◌, List, [], ◌∷◌, ◌++◌, map, sym, refl, ap, ◌∙◌, ⊎_elim, arith}
 use mathlib.Core.Path.{fun_ext}
 use Rattle.history.specs.declared.messages.Post.{Post}
 use Rattle.history.specs.Events.{Logs, at, Sent}
@@ -11,6 +11,7 @@ use Rattle.history.specs.Laws.{Alike, OrderFree, RunsOrderFree}
 use Rattle.history.proofs.Unique.{row_one}
 use Rattle.history.proofs.Sound.{Sound}
 use Rattle.history.proofs.Runs.{sound_run, run_push}
+use Rattle.history.proofs.Outcomes.{outcomes_told}
 use Rattle.history.proofs.Told.{said_run, same_told}
 use Rattle.history.proofs.Accepting.{accepts_runs}
 
@@ -55,6 +56,7 @@ module _ {V : Type 0} (M : Payload V) (z : Size) where
   order_free cs ds same =
       let e = same_history cs ds (λ u. (accepts_runs M z cs).logged u ∙ same u ∙ sym ((accepts_runs M z ds).logged u)) in
       record {
+        answers = λ u. sym (outcomes_told V M z cs u) ∙ ap (λ (h : History V). map (λ r. r.answer) (h.told u)) e ∙ outcomes_told V M z ds u;
         alike = alike (run M z cs) (run M z ds) e;
         one_more = λ c. rw e refl;
         one_more_alike = λ c. alike (run M z (cs ++ c ∷ [])) (run M z (ds ++ c ∷ [])) (run_push M z cs c ∙ rw e (sym (run_push M z ds c)));

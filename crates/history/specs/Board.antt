@@ -86,6 +86,15 @@ module _ {V : Type 0} (M : Payload V) where
     abbrev pub outcome : State V → Call → Result (Answer V) Refusal
     outcome s c = answered (refusal s c.unit c.act) (answer_to c.unit c.act (s.rows c.unit) ((acted s c.unit c.act).rows c.unit))
 
+    -- What each call of a list is answered, or why it is refused, from a state on.
+    abbrev pub outcomes_from : State V → List Call → List (Result (Answer V) Refusal)
+    outcomes_from s [] = []
+    outcomes_from s (c ∷ cs) = outcome s c ∷ outcomes_from (next s c) cs
+
+    -- the outcomes of a list of calls handed to a new board
+    abbrev pub outcomes : List Call → List (Result (Answer V) Refusal)
+    outcomes cs = outcomes_from new_state cs
+
     -- the history after one more call
     abbrev pub after : History V → Call → History V
     after h c = record {

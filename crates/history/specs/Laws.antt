@@ -1,7 +1,8 @@
 -- The law over runs: what is true of every list of calls handed to a new board. Of measures it says nothing.
-use Rattle.std.specs.Prelude.{◌≡◌, ℕ, suc, ◌⊎◌, ◌↔◌, List, [], ◌∷◌, ◌++◌, Some, None}
+use Rattle.std.specs.Prelude.{◌≡◌, ℕ, suc, ◌⊎◌, ◌↔◌, if◌then◌else◌, List, [], ◌∷◌, ◌++◌, map, Some, None, Ok, Err, Result, ◌==◌}
 use Rattle.bitset.specs.Sets.{Member}
 use Rattle.history.specs.declared.precedence.Precedence.{Precedence}
+use Rattle.history.specs.declared.refusals.Refusal.{Refusal}
 use Rattle.history.specs.Events.{Event, Events, send, receive, mark, at}
 use Rattle.history.specs.Marks.{IsMark, marks}
 use Rattle.history.specs.HappenedBefore.{Immediate}
@@ -9,7 +10,7 @@ use Rattle.history.specs.Stamps.{Stamp}
 use Rattle.history.specs.Messages.{Stated}
 use Rattle.history.specs.Rows.{Payload}
 use Rattle.history.specs.Runs.{Size, Call, Possible, Run, by_unit, SameByUnit}
-use Rattle.history.specs.Board.{History, own_clock, marked, refusal, outcome, run, accepted}
+use Rattle.history.specs.Board.{State, Answer, History, own_clock, marked, refusal, next, outcome, outcomes, run, accepted}
 use Rattle.history.specs.Precedence.{Ordered, compared}
 
 -- The events that a run accepted.
@@ -41,6 +42,17 @@ MessagesAnswered V =
     (M : Payload V) (z : Size) (cs : List Call) (u i m : ℕ) → (happened M z cs u i ≡ Some (send m)) ⊎ (happened M z cs u i ≡ Some (receive m))
     → (stamp : ℕ → ℕ) × (at (run M z cs).told u i ≡ Some (record { answer = own_clock (marks (happened M z cs) u i); stamp = stamp }))
 
+-- the answers to the accepted calls of unit u, from the outcomes of a list of calls
+abbrev pub answers_of : {V : Type 0} → ℕ → List Call → List (Result (Answer V) Refusal) → List (Answer V)
+answers_of u [] os = []
+answers_of u (c ∷ cs) [] = []
+answers_of u (c ∷ cs) (Ok a ∷ os) = if u == c.unit then a ∷ answers_of u cs os else answers_of u cs os
+answers_of u (c ∷ cs) (Err e ∷ os) = answers_of u cs os
+
+-- What a history says that each unit was told are the answers to its accepted calls, in the order handed in.
+abbrev pub OutcomesTold : Type 0 → Type 0
+OutcomesTold V = (M : Payload V) (z : Size) (cs : List Call) (u : ℕ) → map (λ r. r.answer) ((run M z cs).told u) ≡ answers_of u cs (outcomes M z cs)
+
 -- Two histories stand alike: all rows of units and of messages are equal, what became of the messages, and each unit's replies.
 pub record Alike {V : Type 0} (g h : History V) : Type 0 where
   pub rows : (u j : ℕ) → g.state.rows u j ≡ h.state.rows u j
@@ -51,6 +63,7 @@ pub record Alike {V : Type 0} (g h : History V) : Type 0 where
 -- Two lists whose accepted calls are the same unit by unit got the same answer to each unit's j-th accepted call and stand
 -- alike; and any one more call, the same for both, is answered alike and leaves them alike.
 pub record OrderFree {V : Type 0} (M : Payload V) (z : Size) (cs ds : List Call) : Type 0 where
+  pub answers : (u : ℕ) → answers_of u cs (outcomes M z cs) ≡ answers_of u ds (outcomes M z ds)
   pub alike : Alike (run M z cs) (run M z ds)
   pub one_more : (c : Call) → outcome M z (run M z cs).state c ≡ outcome M z (run M z ds).state c
   pub one_more_alike : (c : Call) → Alike (run M z (cs ++ c ∷ [])) (run M z (ds ++ c ∷ []))
@@ -85,14 +98,23 @@ StampsDecide =
     → (p q : ℕ → ℕ) → Stamp (at (by_unit cs)) u i p → Stamp (at (by_unit cs)) v j q
     → (o : Precedence) → (compared p q u v ≡ o) ↔ Ordered (at (by_unit cs)) u i v j o
 
--- Whatever two boards carry, the same calls are taken on both, and lead to the same logs, messages, clocks and flags.
-pub record BareAlike {V W : Type 0} (M : Payload V) (N : Payload W) (z : Size) (cs : List Call) : Type 0 where
-  pub refusals : (u : ℕ) (e : Event) → refusal M z (run M z cs).state u e ≡ refusal N z (run N z cs).state u e
-  pub logs : (u : ℕ) → (run M z cs).log u ≡ (run N z cs).log u
-  pub posts : (m : ℕ) → (run M z cs).state.posts m ≡ (run N z cs).state.posts m
-  pub clocks : (u j : ℕ) → ((run M z cs).state.rows u j).clock ≡ ((run N z cs).state.rows u j).clock
-  pub flags : (u j : ℕ) → ((run M z cs).state.rows u j).flag ≡ ((run N z cs).state.rows u j).flag
+-- Two states differ in nothing but what their cells carry.
+pub record SameBare {V W : Type 0} (s : State V) (t : State W) : Type 0 where
+  pub clocks : (u j : ℕ) → (s.rows u j).clock ≡ (t.rows u j).clock
+  pub flags : (u j : ℕ) → (s.rows u j).flag ≡ (t.rows u j).flag
+  pub message_clocks : (m j : ℕ) → (s.message_rows m j).clock ≡ (t.message_rows m j).clock
+  pub message_flags : (m j : ℕ) → (s.message_rows m j).flag ≡ (t.message_rows m j).flag
+  pub posts : (m : ℕ) → s.posts m ≡ t.posts m
 
--- This is so for any list of calls.
+-- What cells carry changes nothing else, whatever two boards carry.
+pub record CarriesFreely {V W : Type 0} (M : Payload V) (N : Payload W) (z : Size) : Type 0 where
+  -- in states that differ in nothing else, a call is taken by both boards or refused by both for one reason, and leaves such states
+  pub refusals : (s : State V) (t : State W) → SameBare s t → (u : ℕ) (e : Event) → refusal M z s u e ≡ refusal N z t u e
+  pub step : (s : State V) (t : State W) → SameBare s t → (c : Call) → SameBare (next M z s c) (next N z t c)
+  -- so the same calls lead to the same logs, and to such states
+  pub logs : (cs : List Call) (u : ℕ) → (run M z cs).log u ≡ (run N z cs).log u
+  pub states : (cs : List Call) → SameBare (run M z cs).state (run N z cs).state
+
+-- This is so for any two payloads.
 abbrev pub PayloadFree : Type 0 → Type 0 → Type 0
-PayloadFree V W = (M : Payload V) (N : Payload W) (z : Size) (cs : List Call) → BareAlike M N z cs
+PayloadFree V W = (M : Payload V) (N : Payload W) (z : Size) → CarriesFreely M N z
