@@ -196,6 +196,9 @@ fn rows_of_every_kind(rt: HostRuntime) -> Result<(), Fail> {
     let clock_rows = Grid::new(&mut clocks, 2);
     let flag_rows = Grid::new(&mut flags, 2);
     let mut set_rows = Grid::new(&mut sets, 2);
+    assert_eq!(rt; set_rows.fill_rows(4, 0x02), Err(GridError::NoSuchRow));
+    assert_eq!(rt; set_rows.fill_rows(1, 0x02), Ok(()));
+    assert_eq!(rt; set_rows.cell(0, 1), Some(0x02));
     assert_eq!(rt; set_rows.fill_row(0, 0x01), Ok(()));
     assert_eq!(rt; set_rows.copy_row(1, 2), Ok(()));
     assert_eq!(rt; set_rows.copy_row(3, 2), Err(GridError::NoSuchRow));

@@ -1,5 +1,5 @@
 -- Grids: the rows that they have, how their calls refuse, and what no call changes.
-use Rattle.std.specs.Prelude.{◌≡◌, ℕ, ◌+◌, ◌*◌, ◌≤◌, Bool, ◌&&◌, List, length, if◌then◌else◌, Err, Result}
+use Rattle.std.specs.Prelude.{◌≡◌, ℕ, ◌+◌, ◌*◌, ◌≤◌, Bool, ◌&&◌, List, length, nat_le, if◌then◌else◌, Err, Result}
 use Rattle.std.proofs.Math.Seq.{paste}
 use Rattle.grid.specs.declared.Grid.{Grid}
 use Rattle.grid.specs.declared.RowPair.{RowPair}
@@ -18,6 +18,10 @@ module _ {T : Type 0} (g : Grid T) where
   -- whether it has both rows
   abbrev pub has_rows : ℕ → ℕ → Bool
   has_rows from to = has_row from && has_row to
+
+  -- whether the first rows lie within the cells
+  abbrev pub has_first_rows : ℕ → Bool
+  has_first_rows rows = nat_le (rows * g.width) (length g.cells.now)
 
   -- two rows of the grid, one that is read and one that is written
   abbrev pub row_pair : ℕ → ℕ → RowPair

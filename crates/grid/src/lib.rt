@@ -3,10 +3,10 @@
 // A call for a row or a column that is not there is refused, or answers none, and changes nothing.
 #![tactic(auto)]
 
-ghost use Rattle.std.specs.Prelude.{◌≡◌, ◌+◌, ◌*◌, ◌≤◌, ◌&&◌, length, replicate, if◌then◌else◌, IfOk, is_ok, nat_lt, slice_get, slice_index_or, slice_set};
+ghost use Rattle.std.specs.Prelude.{◌≡◌, ◌+◌, ◌*◌, ◌≤◌, ◌&&◌, ◌++◌, drop, length, replicate, if◌then◌else◌, IfOk, is_ok, nat_lt, slice_get, slice_index_or, slice_set};
 ghost use Rattle.grid.specs.declared.errors.GridError.TheVariants.{NoSuchRow, NoSuchColumn};
 ghost use Rattle.grid.specs.Rows.{row as row_of, with_row};
-ghost use Rattle.grid.specs.Grids.{ask, has_row, has_rows, row_pair, LieWithin, SameMemory};
+ghost use Rattle.grid.specs.Grids.{ask, has_first_rows, has_row, has_rows, row_pair, LieWithin, SameMemory};
 
 mod errors;
 
@@ -99,6 +99,22 @@ impl<T: Copy> Grid<'_, T> {
         let start = self.start_of(row)?;
         let end = start + self.width;
         fill(&mut self.cells[start..end], v);
+        Ok(())
+    }
+
+    // Sets each cell of the first rows.
+    pub fn fill_rows(&mut self, rows: usize, v: T) -> Result<(), GridError>
+        ensures answer { result ≡ ask (has_first_rows self.old rows) NoSuchRow (Ok tt) }
+        ensures cells { self.new.cells.now ≡ (if is_ok result then replicate (rows * self.old.width) v ++ drop (rows * self.old.width) self.old.cells.now else self.old.cells.now) }
+        ensures memory { SameMemory self.old self.new }
+    {
+        let Some(count) = rows.checked_mul(self.width) else {
+            return Err(GridError::NoSuchRow);
+        };
+        if count > self.cells.len() {
+            return Err(GridError::NoSuchRow);
+        }
+        fill(&mut self.cells[0..count], v);
         Ok(())
     }
 
