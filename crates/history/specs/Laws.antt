@@ -49,7 +49,7 @@ answers_of u (c ∷ cs) [] = []
 answers_of u (c ∷ cs) (Ok a ∷ os) = if u == c.unit then a ∷ answers_of u cs os else answers_of u cs os
 answers_of u (c ∷ cs) (Err e ∷ os) = answers_of u cs os
 
--- What a history says that each unit was told are the answers to its accepted calls, in the order handed in.
+-- Each unit was told the answers to its accepted calls, in the order handed in.
 abbrev pub OutcomesTold : Type 0 → Type 0
 OutcomesTold V = (M : Payload V) (z : Size) (cs : List Call) (u : ℕ) → map (λ r. r.answer) ((run M z cs).told u) ≡ answers_of u cs (outcomes M z cs)
 
