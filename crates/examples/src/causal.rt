@@ -199,6 +199,8 @@ fn rows_of_every_kind(rt: HostRuntime) -> Result<(), Fail> {
     assert_eq!(rt; set_rows.fill_rows(4, 0x02), Err(GridError::NoSuchRow));
     assert_eq!(rt; set_rows.fill_rows(1, 0x02), Ok(()));
     assert_eq!(rt; set_rows.cell(0, 1), Some(0x02));
+    assert_eq!(rt; set_rows.row(0), Ok(&[0x02, 0x02][..]));
+    assert_eq!(rt; set_rows.row(3), Err(GridError::NoSuchRow));
     assert_eq!(rt; set_rows.fill_row(0, 0x01), Ok(()));
     assert_eq!(rt; set_rows.copy_row(1, 2), Ok(()));
     assert_eq!(rt; set_rows.copy_row(3, 2), Err(GridError::NoSuchRow));

@@ -3,7 +3,7 @@
 // A call for a row or a column that is not there is refused, or answers none, and changes nothing.
 #![tactic(auto)]
 
-ghost use Rattle.std.specs.Prelude.{◌≡◌, ◌+◌, ◌*◌, ◌≤◌, ◌&&◌, ◌++◌, drop, length, replicate, if◌then◌else◌, IfOk, is_ok, nat_lt, slice_get, slice_index_or, slice_set};
+ghost use Rattle.std.specs.Prelude.{◌≡◌, ◌+◌, ◌*◌, ◌≤◌, ◌&&◌, ◌++◌, drop, length, replicate, if◌then◌else◌, IfOk, is_ok, IsTrue, false, MatchResult, nat_lt, slice_get, slice_index_or, slice_set};
 ghost use Rattle.grid.specs.declared.errors.GridError.TheVariants.{NoSuchRow, NoSuchColumn};
 ghost use Rattle.grid.specs.Rows.{row as row_of, with_row};
 ghost use Rattle.grid.specs.Grids.{ask, has_first_rows, has_row, has_rows, row_pair, LieWithin, SameMemory};
@@ -73,6 +73,16 @@ impl<T: Copy> Grid<'_, T> {
         } else {
             None
         }
+    }
+
+    // The cells of a row, lent to be read.
+    pub fn row(&self, row: usize) -> Result<&[T], GridError>
+        ensures { MatchResult result (λ cells. IsTrue (has_row self.now row) × (cells.now ≡ row_of self.now.cells.now self.now.width row)) (λ error. (has_row self.now row ≡ false) × (error ≡ NoSuchRow)) }
+    {
+        let start = self.start_of(row)?;
+        self.cells
+            .get(start..start + self.width)
+            .ok_or(GridError::NoSuchRow)
     }
 
     // Sets one cell.
