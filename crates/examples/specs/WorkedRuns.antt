@@ -15,6 +15,7 @@ use Rattle.measures.specs.Words.{Letter, Word}
 use Rattle.measures.specs.Measures.{Meaning}
 use Rattle.measures.specs.Automata.{state_sets}
 use Rattle.measures.specs.Counts.{flow_count}
+use Rattle.measures.specs.Formats.{states_in, labels_in, start_in, finals_in, table_in}
 use Rattle.measures.specs.Spans.{ends, span}
 use Rattle.measures.specs.Worths.{carrying, sized}
 
@@ -25,13 +26,19 @@ pub record WorkedRun : Type 0 where
   pub labels : ℕ
   pub calls : List Call
 
--- Labels: 0 beacon, 1 waiting, 2 sound. A flow is good if it ends with a sound that follows a beacon heard while waiting.
-abbrev pub wake_up : Meaning ℕ
-wake_up = state_sets 5 3 0 (4 ∷ 1 ∷ 4 ∷ 2 ∷ 1 ∷ 4 ∷ 2 ∷ 1 ∷ 3 ∷ 4 ∷ 1 ∷ 4 ∷ 4 ∷ 4 ∷ 4 ∷ [])
+-- A pattern's bytes. Labels: 0 beacon, 1 waiting, 2 sound. A flow is good if it ends with a sound that follows a beacon heard while waiting.
+abbrev pub wake_up_bytes : List ℕ
+wake_up_bytes =
+    0x20 ∷ 5 ∷ 3 ∷ 0 ∷ 8 ∷ 0 ∷ 0 ∷ 0 ∷ 0 ∷ 0 ∷ 0 ∷ 0
+    ∷ 4 ∷ 1 ∷ 4 ∷ 2 ∷ 1 ∷ 4 ∷ 2 ∷ 1 ∷ 3 ∷ 4 ∷ 1 ∷ 4 ∷ 4 ∷ 4 ∷ 4 ∷ []
 
--- its set of final states, {3}
+-- the measure of the pattern in these bytes
+abbrev pub wake_up : Meaning ℕ
+wake_up = state_sets (states_in wake_up_bytes) (labels_in wake_up_bytes) (start_in wake_up_bytes) (table_in wake_up_bytes)
+
+-- its set of final states
 abbrev pub awake : ℕ
-awake = 8
+awake = finals_in wake_up_bytes
 
 -- no letter, once
 abbrev pub empty_once : Word → ℕ
@@ -57,23 +64,23 @@ abbrev pub does : ℕ → Event → Call
 does u e = record { unit = u; act = e }
 
 -- what the event at place i of unit u was told under a measure
-abbrev pub told : {V : Type 0} → Meaning V → WorkedRun → ℕ → ℕ → Option (Reply V)
-told m r u i = at (run (carrying m r.units) (sized m r.units r.messages 65535) r.calls).told u i
+abbrev pub reply_to : {V : Type 0} → Meaning V → WorkedRun → ℕ → ℕ → Option (Reply V)
+reply_to m r u i = at (run (carrying m r.units) (sized m r.units r.messages 65535) r.calls).told u i
 
 -- Something found of a run.
 pub data Finding : Type 0 where
   -- the mark at a place of a unit: its own number, the units of its immediate predecessors as a number, and its stamp
-  marks : (unit place number predecessors : ℕ) → List ℕ → Finding
+  mark_is : (unit place number predecessors : ℕ) → List ℕ → Finding
   -- its set of states, and whether some and whether all of its flows are good
-  reaches : (unit place set : ℕ) → Bool → Bool → Finding
+  set_is : (unit place set : ℕ) → Bool → Bool → Finding
   -- how many flows end at it, and how many marks the shortest and the longest have
-  has_flows : (unit place flows shortest longest : ℕ) → Finding
+  flows_are : (unit place flows shortest longest : ℕ) → Finding
   -- the words of these flows
-  has_words : (unit place : ℕ) → List Word → Finding
+  words_are : (unit place : ℕ) → List Word → Finding
   -- how one mark stands to another
-  stands : (unit place other_unit other_place : ℕ) → Precedence → Finding
+  order_is : (unit place other_unit other_place : ℕ) → Precedence → Finding
   -- one more call, and why it is refused
-  refuses : (unit : ℕ) → Event → Refusal → Finding
+  refusal_is : (unit : ℕ) → Event → Refusal → Finding
 
 -- the own number and the predecessors that a mark was told
 abbrev pub mark_in : {V : Type 0} → Answer V → Option (ℕ × ℕ)
@@ -90,29 +97,30 @@ abbrev pub having : Word → (Word → ℕ) → ℕ
 having w f = f (reverse w)
 
 module _ (r : WorkedRun) where
-  abbrev counted : ℕ → ℕ → Option (Reply ℕ)
-  counted u i = told (flow_count r.labels) r u i
+  -- what the event at place i of unit u was told under the flow count
+  abbrev count_reply : ℕ → ℕ → Option (Reply ℕ)
+  count_reply u i = reply_to (flow_count r.labels) r u i
 
   -- the stamp of the mark at place i of unit u
   abbrev stamp_at : ℕ → ℕ → ℕ → ℕ
-  stamp_at u i v = unwrap_or (option_map (λ x. x.stamp v) (counted u i)) 0
+  stamp_at u i v = unwrap_or (option_map (λ x. x.stamp v) (count_reply u i)) 0
 
   -- What each finding says.
-  abbrev pub Holds : Finding → Type 0
-  Holds (marks u i number predecessors stamp) =
-      (option_and_then (λ x. mark_in x.answer) (counted u i) ≡ Some (number, predecessors))
+  abbrev pub Found : Finding → Type 0
+  Found (mark_is u i number predecessors stamp) =
+      (option_and_then (λ x. mark_in x.answer) (count_reply u i) ≡ Some (number, predecessors))
       × (map (stamp_at u i) (range_with_len 0 r.units) ≡ stamp)
-  Holds (reaches u i set some all) =
-      (option_and_then (λ x. value_in x.answer) (told wake_up r u i) ≡ Some set)
+  Found (set_is u i set some all) =
+      (option_and_then (λ x. value_in x.answer) (reply_to wake_up r u i) ≡ Some set)
       × (meets set awake ≡ some) × (within set awake ≡ all)
-  Holds (has_flows u i flows shortest longest) =
-      (option_and_then (λ x. value_in x.answer) (counted u i) ≡ Some flows)
-      × (option_and_then (λ x. value_in x.answer) (told (span r.labels) r u i) ≡ Some (ends shortest longest))
-  Holds (has_words u i ws) =
-      (option_and_then (λ x. value_in x.answer) (counted u i) ≡ Some (length ws))
-      × AllByRecursion (λ w. option_map (having w) (option_and_then (λ x. value_in x.answer) (told (words r.labels) r u i)) ≡ Some 1) ws
-  Holds (stands u i v j order) = compared (stamp_at u i) (stamp_at v j) u v ≡ order
-  Holds (refuses u e refusal) =
+  Found (flows_are u i flows shortest longest) =
+      (option_and_then (λ x. value_in x.answer) (count_reply u i) ≡ Some flows)
+      × (option_and_then (λ x. value_in x.answer) (reply_to (span r.labels) r u i) ≡ Some (ends shortest longest))
+  Found (words_are u i ws) =
+      (option_and_then (λ x. value_in x.answer) (count_reply u i) ≡ Some (length ws))
+      × AllByRecursion (λ w. option_map (having w) (option_and_then (λ x. value_in x.answer) (reply_to (words r.labels) r u i)) ≡ Some 1) ws
+  Found (order_is u i v j order) = compared (stamp_at u i) (stamp_at v j) u v ≡ order
+  Found (refusal_is u e refusal) =
       outcome (carrying (flow_count r.labels) r.units) (sized (flow_count r.labels) r.units r.messages 65535)
       (run (carrying (flow_count r.labels) r.units) (sized (flow_count r.labels) r.units r.messages 65535) r.calls).state (does u e)
       ≡ Err refusal
@@ -130,7 +138,7 @@ player_waits_first = record {
     labels = 3;
     calls = does 1 (mark 1) ∷ does 1 (send 0) ∷ does 0 (receive 0) ∷ does 0 (mark 0) ∷ does 0 (send 1) ∷ does 1 (receive 1) ∷ does 1 (mark 2) ∷ [];
   };
-  findings = marks 1 3 2 1 (1 ∷ 2 ∷ []) ∷ reaches 1 3 8 true true ∷ has_flows 1 3 1 3 3 ∷ [];
+  findings = mark_is 1 3 2 1 (1 ∷ 2 ∷ []) ∷ set_is 1 3 8 true true ∷ flows_are 1 3 1 3 3 ∷ [];
 }
 
 abbrev pub lost_wake_up : Case
@@ -141,7 +149,7 @@ lost_wake_up = record {
     labels = 3;
     calls = does 0 (mark 0) ∷ does 0 (send 1) ∷ does 1 (mark 1) ∷ does 1 (send 0) ∷ does 1 (receive 1) ∷ does 0 (receive 0) ∷ does 1 (mark 2) ∷ [];
   };
-  findings = marks 1 3 2 3 (1 ∷ 2 ∷ []) ∷ reaches 1 3 16 false false ∷ has_flows 1 3 2 2 2 ∷ [];
+  findings = mark_is 1 3 2 3 (1 ∷ 2 ∷ []) ∷ set_is 1 3 16 false false ∷ flows_are 1 3 2 2 2 ∷ [];
 }
 
 -- The run that docs/LAW.md draws; the labels 0 to 5 are its a to f.
@@ -154,11 +162,11 @@ three_chains_into_one_mark = record {
     calls = does 0 (mark 0) ∷ does 0 (send 0) ∷ does 0 (mark 1) ∷ does 2 (mark 3) ∷ does 2 (send 1) ∷ does 1 (receive 0) ∷ does 1 (receive 1) ∷ does 1 (mark 4)
         ∷ does 1 (mark 5) ∷ does 1 (send 2) ∷ does 0 (receive 2) ∷ does 0 (mark 2) ∷ [];
   };
-  findings = marks 0 0 1 0 (1 ∷ 0 ∷ 0 ∷ []) ∷ marks 0 2 2 1 (2 ∷ 0 ∷ 0 ∷ []) ∷ marks 2 0 1 0 (0 ∷ 0 ∷ 1 ∷ []) ∷ marks 1 2 1 5 (1 ∷ 1 ∷ 1 ∷ [])
-      ∷ marks 1 3 2 2 (1 ∷ 2 ∷ 1 ∷ []) ∷ marks 0 4 3 3 (3 ∷ 2 ∷ 1 ∷ [])
-      ∷ has_flows 0 0 1 1 1 ∷ has_flows 0 2 1 2 2 ∷ has_flows 2 0 1 1 1 ∷ has_flows 1 2 2 2 2 ∷ has_flows 1 3 2 3 3 ∷ has_flows 0 4 3 3 4
-      ∷ has_words 0 4 ((0 ∷ 1 ∷ 2 ∷ []) ∷ (0 ∷ 4 ∷ 5 ∷ 2 ∷ []) ∷ (3 ∷ 4 ∷ 5 ∷ 2 ∷ []) ∷ [])
-      ∷ stands 0 0 0 4 Precedes ∷ stands 0 2 1 2 Concurrent ∷ [];
+  findings = mark_is 0 0 1 0 (1 ∷ 0 ∷ 0 ∷ []) ∷ mark_is 0 2 2 1 (2 ∷ 0 ∷ 0 ∷ []) ∷ mark_is 2 0 1 0 (0 ∷ 0 ∷ 1 ∷ []) ∷ mark_is 1 2 1 5 (1 ∷ 1 ∷ 1 ∷ [])
+      ∷ mark_is 1 3 2 2 (1 ∷ 2 ∷ 1 ∷ []) ∷ mark_is 0 4 3 3 (3 ∷ 2 ∷ 1 ∷ [])
+      ∷ flows_are 0 0 1 1 1 ∷ flows_are 0 2 1 2 2 ∷ flows_are 2 0 1 1 1 ∷ flows_are 1 2 2 2 2 ∷ flows_are 1 3 2 3 3 ∷ flows_are 0 4 3 3 4
+      ∷ words_are 0 4 ((0 ∷ 1 ∷ 2 ∷ []) ∷ (0 ∷ 4 ∷ 5 ∷ 2 ∷ []) ∷ (3 ∷ 4 ∷ 5 ∷ 2 ∷ []) ∷ [])
+      ∷ order_is 0 0 0 4 Precedes ∷ order_is 0 2 1 2 Concurrent ∷ [];
 }
 
 abbrev pub message_overtaken_by_an_indirect_one : Case
@@ -169,7 +177,7 @@ message_overtaken_by_an_indirect_one = record {
     labels = 1;
     calls = does 0 (mark 0) ∷ does 0 (send 0) ∷ does 0 (send 1) ∷ does 1 (receive 0) ∷ does 1 (mark 0) ∷ does 1 (send 2) ∷ does 2 (receive 1) ∷ does 2 (receive 2) ∷ does 2 (mark 0) ∷ [];
   };
-  findings = marks 2 2 1 2 (1 ∷ 1 ∷ 1 ∷ []) ∷ has_flows 2 2 1 3 3 ∷ [];
+  findings = mark_is 2 2 1 2 (1 ∷ 1 ∷ 1 ∷ []) ∷ flows_are 2 2 1 3 3 ∷ [];
 }
 
 abbrev pub two_messages_from_one_mark : Case
@@ -180,7 +188,7 @@ two_messages_from_one_mark = record {
     labels = 1;
     calls = does 0 (mark 0) ∷ does 0 (send 0) ∷ does 0 (send 1) ∷ does 1 (receive 0) ∷ does 1 (receive 1) ∷ does 1 (mark 0) ∷ [];
   };
-  findings = marks 1 2 1 1 (1 ∷ 1 ∷ []) ∷ has_flows 1 2 1 2 2 ∷ [];
+  findings = mark_is 1 2 1 1 (1 ∷ 1 ∷ []) ∷ flows_are 1 2 1 2 2 ∷ [];
 }
 
 abbrev pub unit_hears_itself : Case
@@ -191,13 +199,13 @@ unit_hears_itself = record {
     labels = 1;
     calls = does 0 (mark 0) ∷ does 0 (send 0) ∷ does 0 (mark 0) ∷ does 0 (receive 0) ∷ does 0 (mark 0) ∷ [];
   };
-  findings = marks 0 4 3 1 (3 ∷ []) ∷ has_flows 0 4 1 3 3 ∷ [];
+  findings = mark_is 0 4 3 1 (3 ∷ []) ∷ flows_are 0 4 1 3 3 ∷ [];
 }
 
 abbrev pub refusals_on_a_new_board : Case
 refusals_on_a_new_board = record {
   worked = record { units = 2; messages = 2; labels = 1; calls = [] };
-  findings = refuses 2 (send 9) NoSuchUnit ∷ refuses 0 (send 2) NoSuchMessage ∷ refuses 0 (receive 0) NeverSent ∷ [];
+  findings = refusal_is 2 (send 9) NoSuchUnit ∷ refusal_is 0 (send 2) NoSuchMessage ∷ refusal_is 0 (receive 0) NeverSent ∷ [];
 }
 
 abbrev pub cases : List Case
@@ -207,4 +215,4 @@ cases =
 
 -- Every finding of every case is so.
 abbrev pub RunsAsWorked : Type 0
-RunsAsWorked = AllByRecursion (λ c. AllByRecursion (Holds c.worked) c.findings) cases
+RunsAsWorked = AllByRecursion (λ c. AllByRecursion (Found c.worked) c.findings) cases

@@ -28,14 +28,13 @@ pub marks_counted : (labels : ℕ) → (0 < labels) × (labels ≤ 64) → Marks
 marks_counted labels counted n k limit cs u i l e =
     let m = flow_count labels in
     let v = valued m (λ v. v < 2 ^ 32) (flow_count_lawful labels counted) n k limit cs u i l e in
-    let ev = accepted_events m n k limit cs in (
-      v,
-      length (v.flow ∷ v.flows),
-      (v.flow ∷ v.flows, v.all, refl),
-      v.value_is
-          ∙ count_joined labels (λ f. carried m (word ev f)) (λ f. count_carried labels 1 (word ev f)) (carried m (word ev v.flow)) v.flows (let one = count_carried labels 1 (word ev v.flow) in omega arith)
-          ∙ (let one = count_carried labels 1 (word ev v.flow) in omega arith),
-    )
+    let ev = accepted_events m n k limit cs in
+    let one = count_carried labels 1 (word ev v.flow) in
+    let is : v.answered.value ≡ min (length (v.flow ∷ v.flows)) 4294967295 =
+    v.value_is
+    ∙ count_joined labels (λ f. carried m (word ev f)) (λ f. count_carried labels 1 (word ev f)) (carried m (word ev v.flow)) v.flows (omega arith)
+    ∙ omega arith in
+    (v, (length (v.flow ∷ v.flows), (v.flow ∷ v.flows, v.all, refl), is))
 
 -- r has the least shortest and the greatest longest number of v and of what c makes of the list
 record Extremes {A : Type 0} (c : A → Ends) (v : Ends) (fs : List A) (r : Ends) : Type 0 where

@@ -1,14 +1,13 @@
 -- The words that a pattern's bytes accept, and what its state sets say of them.
-use Rattle.std.specs.Prelude.{◌≡◌, ℕ, ◌^◌, Bool, ◌⊎◌, ◌↔◌, List, [], ◌∷◌, map, Some, IsTrue}
+use Rattle.std.specs.Prelude.{◌≡◌, ℕ, ◌^◌, Bool, ◌⊎◌, ◌↔◌, List, [], ◌∷◌, map, IsTrue}
 use Rattle.std.specs.List.{AllByRecursion}
 use Rattle.bitset.specs.Sets.{Member, has}
-use Rattle.history.specs.Events.{Events, mark}
+use Rattle.history.specs.Events.{Events}
 use Rattle.history.specs.Flows.{Place, Longest, word}
-use Rattle.history.specs.Runs.{Call}
 use Rattle.measures.specs.Words.{Word, Labels}
 use Rattle.measures.specs.Measures.{Meaning, carried, joined}
 use Rattle.measures.specs.Automata.{next, leads}
-use Rattle.measures.specs.Laws.{accepted_events, Valued, Judged}
+use Rattle.measures.specs.Laws.{Judged, AtMarks}
 use Rattle.measures.specs.Formats.{labels_in, start_in, finals_in, table_in}
 
 -- the state to which a word leads the automaton in the bytes b
@@ -44,8 +43,6 @@ pub record Reaches (b : List ℕ) (ev : Events) (u i : ℕ) (set : ℕ) (some al
   -- some is yes exactly when one of their words is accepted, all exactly when each is
   pub verdict : Judged (λ w. IsTrue (accepts b w)) some all ev u i
 
--- So it is at each accepted mark of every run.
+-- So it is of the set told at each accepted mark of every run.
 abbrev pub MarksReach : List ℕ → Meaning ℕ → (ℕ → Bool) → (ℕ → Bool) → Type 0
-MarksReach b m some all =
-    (n k limit : ℕ) (cs : List Call) (u i l : ℕ) → accepted_events m n k limit cs u i ≡ Some (mark l)
-    → (v : Valued m n k limit cs u i) × Reaches b (accepted_events m n k limit cs) u i v.answered.value (some v.answered.value) (all v.answered.value)
+MarksReach b m some all = AtMarks m (λ ev u i set. Reaches b ev u i set (some set) (all set))

@@ -47,8 +47,12 @@ pub record Judged (good : Word → Type 0) (some all : Bool) (ev : Events) (u i 
   pub some_flow : IsTrue some ↔ ((f : List Place) × Longest ev u i f × good (word ev f))
   pub all_flows : IsTrue all ↔ ((f : List Place) → Longest ev u i f → good (word ev f))
 
+-- P is true, in every run, of each accepted mark (the events, its unit and place) and of the value that it was told.
+abbrev pub AtMarks : {V : Type 0} → Meaning V → (Events → ℕ → ℕ → V → Type 0) → Type 0
+AtMarks m P =
+    (n k limit : ℕ) (cs : List Call) (u i l : ℕ) → accepted_events m n k limit cs u i ≡ Some (mark l)
+    → (v : Valued m n k limit cs u i) × P (accepted_events m n k limit cs) u i v.answered.value
+
 -- Of each accepted mark's value a judge says whether some, and whether all, of the longest flows that end there are good.
 abbrev pub MarksJudged : {V : Type 0} → Meaning V → (V → Bool) → (V → Bool) → (Word → Type 0) → Type 0
-MarksJudged m some all good =
-    (n k limit : ℕ) (cs : List Call) (u i l : ℕ) → accepted_events m n k limit cs u i ≡ Some (mark l)
-    → (v : Valued m n k limit cs u i) × Judged good (some v.answered.value) (all v.answered.value) (accepted_events m n k limit cs) u i
+MarksJudged m some all good = AtMarks m (λ ev u i v. Judged good (some v) (all v) ev u i)

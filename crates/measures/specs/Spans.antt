@@ -1,11 +1,10 @@
 -- The span.
-use Rattle.std.specs.Prelude.{◌≡◌, ℕ, ◌+◌, ◌<◌, ◌≤◌, List, length, Some, min, max, if◌then◌else◌, nat_lt}
+use Rattle.std.specs.Prelude.{◌≡◌, ℕ, ◌+◌, ◌<◌, ◌≤◌, List, length, min, max, if◌then◌else◌, nat_lt}
 use Rattle.std.proofs.Common.{rules}
-use Rattle.history.specs.Events.{Events, mark}
+use Rattle.history.specs.Events.{Events}
 use Rattle.history.specs.Flows.{Place, Longest}
-use Rattle.history.specs.Runs.{Call}
 use Rattle.measures.specs.declared.spans.Ends.{Ends}
-use Rattle.measures.specs.Laws.{accepted_events, Valued}
+use Rattle.measures.specs.Laws.{AtMarks}
 use Rattle.measures.specs.Measures.{Meaning, Lawful}
 
 -- the ends of a span
@@ -37,8 +36,6 @@ pub record Spanned (ev : Events) (u i : ℕ) (v : Ends) : Type 0 where
   pub longest : (f : List Place) × Longest ev u i f × (v.longest ≡ min (length f) 65535)
   pub none_longer : (f : List Place) → Longest ev u i f → min (length f) 65535 ≤ v.longest
 
--- So it is at each accepted mark of every run.
+-- So it is of the value told at each accepted mark of every run.
 abbrev pub MarksSpanned : Meaning Ends → Type 0
-MarksSpanned m =
-    (n k limit : ℕ) (cs : List Call) (u i l : ℕ) → accepted_events m n k limit cs u i ≡ Some (mark l)
-    → (v : Valued m n k limit cs u i) × Spanned (accepted_events m n k limit cs) u i v.answered.value
+MarksSpanned m = AtMarks m Spanned

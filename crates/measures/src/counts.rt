@@ -15,7 +15,6 @@ pub struct FlowCount {
 
 impl FlowCount {
     // Refuses a label count outside 1 to 64. In every run the value told at a mark is the number of the longest flows that end there (`runs`).
-    #[tactic(auto, using(crate::proofs::FlowSizes::marks_counted))]
     pub fn new(labels: u8) -> Result<FlowCount, Refusal>
         ensures answer { MatchResult result (λ m. (count_refusal labels ≡ None) × (m.labels.number ≡ labels)) (λ e. count_refusal labels ≡ Some e) }
         ensures runs { IfOk result (λ m. MarksCounted (flow_count m.labels.number)) }

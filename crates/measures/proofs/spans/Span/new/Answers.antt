@@ -1,5 +1,6 @@
+use Rattle.std.proofs.Common.{◌<◌, ◌≤◌, arith}
 use Rattle.measures.proofs.FlowSizes.{marks_spanned}
 use Rattle.measures.proofs.spans.Span.new.Goals as goal
 
 pub returns-clause-runs : goal.returns-clause-runs
-returns-clause-runs c = marks_spanned c.in_ok-labels.labels.number c.in_ok-labels.labels.counted
+returns-clause-runs c = let counted = c.in_ok-labels.labels.counted in marks_spanned _ (omega arith)

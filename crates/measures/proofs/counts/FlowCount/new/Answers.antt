@@ -1,0 +1,6 @@
+use Rattle.std.proofs.Common.{◌<◌, ◌≤◌, arith}
+use Rattle.measures.proofs.FlowSizes.{marks_counted}
+use Rattle.measures.proofs.counts.FlowCount.new.Goals as goal
+
+pub returns-clause-runs : goal.returns-clause-runs
+returns-clause-runs c = let counted = c.in_ok-labels.labels.counted in marks_counted _ (omega arith)
