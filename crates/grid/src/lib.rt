@@ -170,7 +170,7 @@ pub fn at_or<T: Copy>(cells: &[T], i: usize, other: T) -> T
 }
 
 // Sets each cell of a part. The slice's own `fill` asks for a clone that cannot fail, which `Copy` does not say.
-fn fill<T: Copy>(part: &mut [T], v: T)
+pub fn fill<T: Copy>(part: &mut [T], v: T)
     ensures { part.new ≡ replicate (length part.old) v }
 {
     for cell in part.iter_mut() {
