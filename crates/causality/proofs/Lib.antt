@@ -1,2 +1,11 @@
+pub mod Calling
 pub mod Comparing
+pub mod Following
+pub mod Leaving
+pub mod Making
+pub mod Marks
 pub mod Merges
+pub mod Receiving
+pub mod Sending
+pub mod Showing
+pub mod Writing

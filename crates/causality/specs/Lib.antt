@@ -1,2 +1,3 @@
+pub mod Boards
 pub mod Comparing
 pub mod Merging

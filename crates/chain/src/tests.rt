@@ -4,8 +4,8 @@ use std::process::Abort;
 use std::test::Fail;
 
 // Labels: 0 beacon, 1 waiting, 2 sound. A good chain is made of rounds: waiting, then beacon, then sound.
-// The tests of the crate `examples` have this pattern too. Written twice, which is plainer than a crate for one constant: tests cannot
-// be imported, and no crate imports a program.
+// The tests of the crate `examples` and the program `board` have this pattern too. Each writes it out, which is plainer than a crate for one
+// constant: tests cannot be imported, and no crate imports a program.
 const PATTERN: [u8; 27] = [
     0x20, 5, 3, 0, 0x08, 0, 0, 0, 0, 0, 0, 0, 4, 1, 4, 2, 1, 4, 2, 1, 3, 4, 1, 4, 4, 4, 4,
 ];

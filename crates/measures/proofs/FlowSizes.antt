@@ -8,9 +8,10 @@ use Rattle.history.specs.Flows.{Place, Longest, letter_at, word}
 use Rattle.measures.specs.declared.spans.Ends.{Ends}
 use Rattle.measures.specs.Words.{Word}
 use Rattle.measures.specs.Measures.{Spelled, carried_from, carried, joined}
-use Rattle.measures.specs.Counts.{flow_count, flow_count_lawful, MarksCounted}
-use Rattle.measures.specs.Laws.{join_over, accepted_events}
+use Rattle.measures.specs.Counts.{flow_count, flow_count_lawful, Counted, MarksCounted}
+use Rattle.measures.specs.Laws.{join_over, accepted_events, AtMarks}
 use Rattle.measures.specs.Spans.{ends, longer, span, span_lawful, Spanned, MarksSpanned}
+use Rattle.measures.proofs.BoardLaw.{at_answers}
 use Rattle.measures.proofs.Judging.{flow_spelled}
 use Rattle.measures.proofs.Valuing.{ranged, valued}
 
@@ -24,8 +25,8 @@ count_joined : (labels : ℕ) {A : Type 0} (c : A → ℕ) → ((a : A) → c a 
 count_joined labels c one v [] h = omega arith
 count_joined labels c one v (f ∷ fs) h = count_joined labels c one (min (v + c f) 4294967295) fs (omega arith) ∙ (let e = one f in omega arith)
 
-pub marks_counted : (labels : ℕ) → (0 < labels) × (labels ≤ 64) → MarksCounted (flow_count labels)
-marks_counted labels counted n k limit cs u i l e =
+counted_told : (labels : ℕ) → (0 < labels) × (labels ≤ 64) → AtMarks (flow_count labels) Counted
+counted_told labels counted n k limit cs u i l e =
     let m = flow_count labels in
     let v = valued m (λ v. v < 2 ^ 32) (flow_count_lawful labels counted) n k limit cs u i l e in
     let ev = accepted_events m n k limit cs in
@@ -35,6 +36,9 @@ marks_counted labels counted n k limit cs u i l e =
     ∙ count_joined labels (λ f. carried m (word ev f)) (λ f. count_carried labels 1 (word ev f)) (carried m (word ev v.flow)) v.flows (omega arith)
     ∙ omega arith in
     (v, (length (v.flow ∷ v.flows), (v.flow ∷ v.flows, v.all, refl), is))
+
+pub marks_counted : (labels : ℕ) → (0 < labels) × (labels ≤ 64) → MarksCounted (flow_count labels)
+marks_counted labels counted = at_answers (flow_count labels) Counted (counted_told labels counted)
 
 -- r has the least shortest and the greatest longest number of v and of what c makes of the list
 record Extremes {A : Type 0} (c : A → Ends) (v : Ends) (fs : List A) (r : Ends) : Type 0 where
@@ -120,11 +124,14 @@ module _ (labels : ℕ) where
           none_longer = λ g h. (let is = high_is g h in let high : (along g).longest ≤ r.longest = ⊎_elim (λ e. subst (λ (a : List Place). (along a).longest ≤ r.longest) (sym e) x.high_first) (x.high_rest g) (all.complete g h) in omega arith);
         }
 
-  pub marks_spanned : (0 < labels) × (labels ≤ 64) → MarksSpanned (span labels)
-  marks_spanned counted n k limit cs u i l e =
+  spanned_told : (0 < labels) × (labels ≤ 64) → AtMarks (span labels) Spanned
+  spanned_told counted n k limit cs u i l e =
       let admits = λ (v : Ends). (v.shortest ≤ v.longest) × (v.longest ≤ 65535) in
       let laws = span_lawful labels counted in
       let v = valued (span labels) admits laws n k limit cs u i l e in
       let ev = accepted_events (span labels) n k limit cs in
       let rg = ranged (span labels) admits laws n k limit cs in
       (v, subst (Spanned ev u i) (sym v.value_is) (spanned ev u i (λ f h. flow_spelled (span labels) n k limit ev rg u i f h.0 h.1) v.flow v.flows v.all))
+
+  pub marks_spanned : (0 < labels) × (labels ≤ 64) → MarksSpanned (span labels)
+  marks_spanned counted = at_answers (span labels) Spanned (spanned_told counted)

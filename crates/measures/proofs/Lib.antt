@@ -1,12 +1,19 @@
+pub mod Asking
+pub mod BoardLaw
 pub mod Carrying
 mod FlowSizes
 pub mod Gathering
 pub mod Judging
+pub mod Lifting
+pub mod MarkedRows
 pub mod Merges
+pub mod Messages
+pub mod Playing
 mod Ranges
 mod Reaching
 mod Reading
 pub mod Recognizing
+pub mod Replaying
 pub mod Totals
 pub mod Valuing
 pub mod Worths

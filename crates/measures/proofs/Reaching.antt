@@ -6,11 +6,12 @@ use Rattle.bitset.proofs.Members.{has_or}
 use Rattle.measures.specs.Words.{Letter, Word, Labels}
 use Rattle.measures.specs.Measures.{Spelled, carried}
 use Rattle.measures.specs.Judges.{Judges}
-use Rattle.measures.specs.Laws.{accepted_events}
+use Rattle.measures.specs.Laws.{accepted_events, AtMarks}
 use Rattle.measures.specs.Automata.{state_sets}
 use Rattle.measures.specs.Formats.{labels_in, PatternOf}
-use Rattle.measures.specs.Acceptance.{state_after, accepts, MarksReach}
+use Rattle.measures.specs.Acceptance.{state_after, accepts, Reaches, MarksReach}
 use Rattle.measures.specs.Accepting.{state_sets_lawful, meets_or, within_or}
+use Rattle.measures.proofs.BoardLaw.{at_answers}
 use Rattle.measures.proofs.Valuing.{ranged}
 use Rattle.measures.proofs.Judging.{some_decided, marks_judged}
 use Rattle.measures.proofs.Recognizing.{member, recognizes}
@@ -33,8 +34,8 @@ module _ (b : List ℕ) (states labels start finals : ℕ) (table : List ℕ) (p
       → (l : Letter) (w : Word) → Spelled (state_sets states labels start table) (l ∷ w) → IsTrue (answer (carried (state_sets states labels start table) (l ∷ w))) ↔ IsTrue (accepts b (l ∷ w))
   accepted_decides answer is l w ls = let e = is (l ∷ w) (there (l ∷ w) ls) in ((λ t. sym e ∙ t), (λ t. e ∙ t))
 
-  pub marks_reach : MarksReach b (state_sets states labels start table) (λ set. meets set finals) (λ set. within set finals)
-  marks_reach n k limit cs u i l e =
+  reached_told : AtMarks (state_sets states labels start table) (λ ev u i set. Reaches b ev u i set (meets set finals) (within set finals))
+  reached_told n k limit cs u i l e =
       let m = state_sets states labels start table in
       let admits = λ (set : ℕ). (0 < set) × (set < 2 ^ states) in
       let laws = state_sets_lawful states labels start table counted begins complete in
@@ -53,3 +54,6 @@ module _ (b : List ℕ) (states labels start finals : ℕ) (table : List ℕ) (p
           verdict = judged;
         },
       )
+
+  pub marks_reach : MarksReach b (state_sets states labels start table) (λ set. meets set finals) (λ set. within set finals)
+  marks_reach = at_answers (state_sets states labels start table) (λ ev u i set. Reaches b ev u i set (meets set finals) (within set finals)) reached_told

@@ -7,7 +7,8 @@ use Rattle.history.specs.Flows.{Place, Longest, word}
 use Rattle.measures.specs.Words.{Word, Labels}
 use Rattle.measures.specs.Measures.{Meaning, carried, joined}
 use Rattle.measures.specs.Automata.{next, leads}
-use Rattle.measures.specs.Laws.{Judged, AtMarks}
+use Rattle.measures.specs.Laws.{Judged}
+use Rattle.measures.specs.Boards.{AtAnswers}
 use Rattle.measures.specs.Formats.{labels_in, start_in, finals_in, table_in}
 
 -- the state to which a word leads the automaton in the bytes b
@@ -43,6 +44,6 @@ pub record Reaches (b : List ℕ) (ev : Events) (u i : ℕ) (set : ℕ) (some al
   -- some is yes exactly when one of their words is accepted, all exactly when each is
   pub verdict : Judged (λ w. IsTrue (accepts b w)) some all ev u i
 
--- So it is of the set told at each accepted mark of every run.
+-- So it is of the set answered at each accepted mark of every list of calls.
 abbrev pub MarksReach : List ℕ → Meaning ℕ → (ℕ → Bool) → (ℕ → Bool) → Type 0
-MarksReach b m some all = AtMarks m (λ ev u i set. Reaches b ev u i set (some set) (all set))
+MarksReach b m some all = AtAnswers m (λ ev u i set. Reaches b ev u i set (some set) (all set))

@@ -2,8 +2,9 @@
 use Rattle.std.specs.Prelude.{◌≡◌, ℕ, ◌+◌, ◌^◌, ◌<◌, ◌≤◌, min}
 use Rattle.std.proofs.Common.{rules}
 use Rattle.history.specs.Counting.{HowMany}
+use Rattle.history.specs.Events.{Events}
 use Rattle.history.specs.Flows.{Longest}
-use Rattle.measures.specs.Laws.{AtMarks}
+use Rattle.measures.specs.Boards.{AtAnswers}
 use Rattle.measures.specs.Measures.{Meaning, Lawful}
 
 -- The flow count over n labels: 1 for each flow, added up to at most 4,294,967,295.
@@ -14,6 +15,10 @@ flow_count n = record { labels = n; start = 1; step = λ v _. v; join = λ a b. 
 pub flow_count_lawful : (n : ℕ) → (0 < n) × (n ≤ 64) → Lawful (flow_count n) (λ v. v < 2 ^ 32)
 flow_count_lawful n counted = search rules
 
--- In every run the value told at each accepted mark is the number of the longest flows that end there, up to the cap.
+-- The value is the number of the longest flows that end at place i of unit u, up to the cap.
+abbrev pub Counted : Events → ℕ → ℕ → ℕ → Type 0
+Counted ev u i v = (flows : ℕ) × HowMany (Longest ev u i) flows × (v ≡ min flows 4294967295)
+
+-- So it is of the value answered at each accepted mark of every list of calls.
 abbrev pub MarksCounted : Meaning ℕ → Type 0
-MarksCounted m = AtMarks m (λ ev u i v. (flows : ℕ) × HowMany (Longest ev u i) flows × (v ≡ min flows 4294967295))
+MarksCounted m = AtAnswers m Counted

@@ -1,5 +1,6 @@
 pub mod Acceptance
 pub mod Automata
+pub mod Boards
 pub mod Counts
 pub mod Formats
 pub mod Judges
@@ -8,6 +9,7 @@ pub mod Measures
 pub mod Merging
 pub mod Refusals
 pub mod Relabellings
+pub mod Replays
 pub mod Spans
 pub mod Words
 pub mod Worths

@@ -4,7 +4,7 @@ use Rattle.std.proofs.Common.{rules}
 use Rattle.history.specs.Events.{Events}
 use Rattle.history.specs.Flows.{Place, Longest}
 use Rattle.measures.specs.declared.spans.Ends.{Ends}
-use Rattle.measures.specs.Laws.{AtMarks}
+use Rattle.measures.specs.Boards.{AtAnswers}
 use Rattle.measures.specs.Measures.{Meaning, Lawful}
 
 -- the ends of a span
@@ -36,6 +36,6 @@ pub record Spanned (ev : Events) (u i : ℕ) (v : Ends) : Type 0 where
   pub longest : (f : List Place) × Longest ev u i f × (v.longest ≡ min (length f) 65535)
   pub none_longer : (f : List Place) → Longest ev u i f → min (length f) 65535 ≤ v.longest
 
--- So it is of the value told at each accepted mark of every run.
+-- So it is of the value answered at each accepted mark of every list of calls.
 abbrev pub MarksSpanned : Meaning Ends → Type 0
-MarksSpanned m = AtMarks m Spanned
+MarksSpanned m = AtAnswers m Spanned

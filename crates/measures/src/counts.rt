@@ -14,7 +14,8 @@ pub struct FlowCount {
 }
 
 impl FlowCount {
-    // Refuses a label count outside 1 to 64. In every run the value told at a mark is the number of the longest flows that end there (`runs`).
+    // Refuses a label count outside 1 to 64. Whatever calls a board was handed, the value answered at a mark is the number of the longest
+    // flows that end there (`runs`).
     pub fn new(labels: u8) -> Result<FlowCount, Refusal>
         ensures answer { MatchResult result (λ m. (count_refusal labels ≡ None) × (m.labels.number ≡ labels)) (λ e. count_refusal labels ≡ Some e) }
         ensures runs { IfOk result (λ m. MarksCounted (flow_count m.labels.number)) }

@@ -1,4 +1,4 @@
-// Measures of the flows that end at a mark, judges of their words, the law of runs under them, and the values of rows.
+// Measures of the flows that end at a mark, judges of their words, and the board under a measure, with the law of what it answers.
 // A unit is one process of a handset; a mark is an event that it shows, with a label;
 // a flow is a chain of marks, each an immediate predecessor of the next, and its word is the list of their labels.
 #![tactic(auto)]
@@ -7,6 +7,7 @@ ghost use Rattle.std.specs.Prelude.{◌≡◌};
 ghost use Rattle.measures.specs.Laws.{LawOfRuns};
 ghost use Rattle.measures.specs.Measures.{Meaning, Lawful, carried, Carries};
 
+pub mod boards;
 pub mod counts;
 pub mod judges;
 pub mod marking;
@@ -14,10 +15,12 @@ pub mod merging;
 pub mod patterns;
 pub mod refusals;
 pub mod relabellings;
+pub mod replays;
 mod sizes;
 pub mod spans;
 mod tables;
 
+pub use boards::{JudgedMark, MeasuredBoard};
 pub use counts::FlowCount;
 pub use judges::{Judge, Verdict, verdicts};
 pub use marking::mark_value;
@@ -25,6 +28,7 @@ pub use merging::{merge_value, merge_values};
 pub use patterns::Pattern;
 pub use refusals::{Fault, Refusal};
 pub use relabellings::Relabelling;
+pub use replays::{Answer, Call, Event, replay};
 pub use spans::{Ends, Span};
 
 // A measure: a number of labels, a start value, a step from a value by a label and a join of two values,

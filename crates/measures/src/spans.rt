@@ -24,8 +24,8 @@ pub struct Span {
 }
 
 impl Span {
-    // Refuses a label count outside 1 to 64, and then a limit above 65,534. In every run the value told at a mark has the numbers of marks of
-    // the shortest and of the longest of the flows that end there (`runs`).
+    // Refuses a label count outside 1 to 64, and then a limit above 65,534. Whatever calls a board was handed, the value answered at a mark
+    // has the numbers of marks of the shortest and of the longest of the flows that end there (`runs`).
     pub fn new(labels: u8, limit: u16) -> Result<Span, Refusal>
         ensures answer { MatchResult result (λ m. (span_refusal labels limit ≡ None) × (m.labels.number ≡ labels) × (m.limit ≡ limit)) (λ e. span_refusal labels limit ≡ Some e) }
         ensures runs { IfOk result (λ m. MarksSpanned (span m.labels.number)) }

@@ -42,8 +42,8 @@ impl Head {
 }
 
 impl Pattern {
-    // The pattern at the front of the input. The set carried along words holds the states to which they lead (`recognizes`), and in every run
-    // the set told at a mark those to which the longest flows that end there lead (`runs`).
+    // The pattern at the front of the input. The set carried along words holds the states to which they lead (`recognizes`), and whatever calls
+    // a board was handed, the set answered at a mark those to which the longest flows that end there lead (`runs`).
     pub fn read(input: &[u8]) -> Result<Pattern, Fault>
         ensures answer { MatchResult result (λ p. (pattern_fault input.now ≡ None) × PatternOf input.now p.head.states.number p.head.labels.number p.head.start p.head.finals p.table) (λ f. pattern_fault input.now ≡ Some f) }
         ensures recognizes { IfOk result (λ p. Recognizes input.now (state_sets p.head.states.number p.head.labels.number p.head.start p.table) (λ set. meets set p.head.finals) (λ set. within set p.head.finals)) }

@@ -1,4 +1,4 @@
-use Rattle.std.proofs.Common.{◌<◌, ◌≤◌, arith}
+use Rattle.std.proofs.Common.{arith}
 use Rattle.measures.proofs.FlowSizes.{marks_counted}
 use Rattle.measures.proofs.counts.FlowCount.new.Goals as goal
 

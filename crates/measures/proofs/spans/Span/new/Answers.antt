@@ -1,4 +1,4 @@
-use Rattle.std.proofs.Common.{◌<◌, ◌≤◌, arith}
+use Rattle.std.proofs.Common.{arith}
 use Rattle.measures.proofs.FlowSizes.{marks_spanned}
 use Rattle.measures.proofs.spans.Span.new.Goals as goal
 

@@ -1,0 +1,44 @@
+-- How many messages are on their way, counted over a list or over their numbers.
+use Rattle.std.proofs.Common.{◌≡◌, ℕ, zero, suc, ◌+◌, ◌*◌, false, ◌<◌, ◌≤◌, Bool, List, length, get_or, take, refl, ap, ap₂, ◌∙◌, sym, if◌then◌else◌, true, add-one, add-zero, arith}
+use Rattle.std.specs.Prelude.{count_by}
+use Rattle.std.proofs.lemmas.List.Sums.{count_by_more_no, count_by_more_yes}
+use Rattle.history.specs.declared.messages.Post.{Post}
+use Rattle.history.specs.declared.messages.Post.TheVariants.{Unsent}
+use Rattle.causality.specs.Boards.{EachShows, travels, travelling}
+
+-- only the states of the messages below k count
+pub travelling_same : (f g : ℕ → Post) (k : ℕ) → ((m : ℕ) → m < k → f m ≡ g m) → travelling f k ≡ travelling g k
+travelling_same f g zero e = refl
+travelling_same f g (suc k) e =
+    ap₂ (λ (t : ℕ) (p : Post). t + (if travels p then 1 else 0)) (travelling_same f g k (λ m h. e m (omega arith))) (e k (omega arith))
+
+-- the count over the first k
+travelling_take : (posts : List Post) (k : ℕ) → k ≤ length posts → count_by travels (take k posts) ≡ travelling (λ m. get_or posts m Unsent) k
+travelling_take posts zero h = refl
+travelling_take posts (suc k) h = one (travels (get_or posts k Unsent)) refl (travelling_take posts k (omega arith))
+  where
+    one : (b : Bool) → travels (get_or posts k Unsent) ≡ b → count_by travels (take k posts) ≡ travelling (λ m. get_or posts m Unsent) k
+        → count_by travels (take (suc k) posts) ≡ travelling (λ m. get_or posts m Unsent) k + (if b then 1 else 0)
+    one true e before =
+        ap (λ (i : ℕ). count_by travels (take i posts)) (sym (add-one k))
+        ∙ count_by_more_yes travels posts k Unsent (omega arith) e
+        ∙ ap (λ (t : ℕ). t + 1) before
+    one false e before = ap (λ (i : ℕ). count_by travels (take i posts)) (sym (add-one k)) ∙ count_by_more_no travels posts k Unsent (omega arith) e ∙ before ∙ sym (add-zero _)
+
+pub travelling_front : (posts : List Post) (k count : ℕ) → k ≤ length posts → count ≡ count_by travels (take k posts) → count ≡ travelling (λ m. get_or posts m Unsent) k
+travelling_front posts k count h e = e ∙ travelling_take posts k h
+
+pub each_shows : {V : Type 0} (start : V) (n k : ℕ) → EachShows start n k
+each_shows start n k memory = (
+  record {
+    rows = λ u j. record { clock = get_or memory.clocks (u * n + j) 0; flag = get_or memory.flags (u * n + j) false; value = get_or memory.values (u * n + j) start };
+    message_rows = λ m j. record { clock = get_or memory.clocks ((n + m) * n + j) 0; flag = get_or memory.flags ((n + m) * n + j) false; value = get_or memory.values ((n + m) * n + j) start };
+    posts = λ m. get_or memory.posts m Unsent;
+  },
+  record {
+    clocks = record { rows = λ u j hu hj. refl; message_rows = λ m j hm hj. refl };
+    flags = record { rows = λ u j hu hj. refl; message_rows = λ m j hm hj. refl };
+    values = record { rows = λ u j hu hj. refl; message_rows = λ m j hm hj. refl };
+    posts = λ m hm. refl;
+  },
+)

@@ -1,0 +1,629 @@
+// Boards that follow a recording, with and without measures: what each call answers, what is refused and by which number, and what a
+// refusal leaves as it was.
+use super::reading::PATTERN;
+use causality::{Board, Clock, Marked};
+use grid::Grid;
+use history::{Handling, Post, Refusal};
+use measures::{
+    Answer, Call, Ends, Event, FlowCount, Judge, JudgedMark, Measure, MeasuredBoard, Pattern,
+    Relabelling, Span, Verdict, replay,
+};
+use std::test::Fail;
+
+// The number of the refusal, if there is one.
+fn refused<T: Drop>(answered: Result<T, Refusal>) -> Option<u8> {
+    answered.err().map(u8::from)
+}
+
+// The front of a memory.
+fn front<T>(memory: &mut [T], count: usize) -> &mut [T] {
+    let count = count.min(memory.len());
+    &mut memory[..count]
+}
+
+// How much of a memory is lent: the cells and the widths of the grids of clocks, flags and values, and the places for messages.
+#[derive(Clone, Copy)]
+struct Lent {
+    cells: [usize; 3],
+    widths: [usize; 3],
+    places: usize,
+}
+
+// Memory for a board of 2 units and 2 messages under a pattern, which needs 8 cells of each kind and 2 places, and more.
+#[derive(Clone, Copy, PartialEq, Eq, Debug)]
+struct Memory {
+    clocks: [Clock; 12],
+    flags: [bool; 12],
+    values: [u64; 12],
+    posts: [Post; 3],
+}
+
+// Memory that no board has written.
+const WRITTEN_BEFORE: Memory = Memory {
+    clocks: [7; 12],
+    flags: [true; 12],
+    values: [9; 12],
+    posts: [Post::Delivered; 3],
+};
+
+// Just enough of it.
+const ENOUGH: Lent = Lent {
+    cells: [8, 8, 8],
+    widths: [2, 2, 2],
+    places: 2,
+};
+
+// One cell or place too few, or a grid of another width.
+const SHORT: [Lent; 6] = [
+    Lent {
+        cells: [7, 8, 8],
+        ..ENOUGH
+    },
+    Lent {
+        cells: [8, 7, 8],
+        ..ENOUGH
+    },
+    Lent {
+        places: 1,
+        ..ENOUGH
+    },
+    Lent {
+        cells: [12, 8, 8],
+        widths: [3, 2, 2],
+        ..ENOUGH
+    },
+    Lent {
+        widths: [1, 2, 2],
+        ..ENOUGH
+    },
+    Lent {
+        cells: [8, 12, 8],
+        widths: [2, 3, 2],
+        ..ENOUGH
+    },
+];
+
+// The same of the values, which a board without measures does not ask for.
+const SHORT_OF_VALUES: [Lent; 3] = [
+    Lent {
+        cells: [8, 8, 7],
+        ..ENOUGH
+    },
+    Lent {
+        cells: [8, 8, 12],
+        widths: [2, 2, 3],
+        ..ENOUGH
+    },
+    Lent {
+        widths: [2, 2, 1],
+        ..ENOUGH
+    },
+];
+
+impl Memory {
+    // The numbers of the refusals of each call of a board without measures, and of its making, in a part of the memory.
+    fn refusals(&mut self, board: &Board, lent: Lent) -> [Option<u8>; 8] {
+        let mut clocks = Grid::new(front(&mut self.clocks, lent.cells[0]), lent.widths[0]);
+        let mut flags = Grid::new(front(&mut self.flags, lent.cells[1]), lent.widths[1]);
+        let posts = front(&mut self.posts, lent.places);
+        [
+            refused(board.ask_unit(&clocks, &flags, posts, 2)),
+            refused(board.ask_message(&clocks, &flags, posts, 2, 9, Handling::Sending)),
+            refused(board.send(&mut clocks, &mut flags, posts, 2, 9)),
+            refused(board.receive(&mut clocks, &mut flags, posts, 2, 9)),
+            refused(board.mark(&mut clocks, &mut flags, posts, 2)),
+            refused(board.state(&clocks, &flags, posts, 9)),
+            refused(board.left(&clocks, &flags, posts)),
+            refused(Board::make(2, 2, &mut clocks, &mut flags, posts)),
+        ]
+    }
+
+    // The same of a board under the pattern.
+    fn measured_refusals(
+        &mut self,
+        pattern: Pattern,
+        board: &MeasuredBoard<Pattern>,
+        lent: Lent,
+    ) -> [Option<u8>; 7] {
+        let mut clocks = Grid::new(front(&mut self.clocks, lent.cells[0]), lent.widths[0]);
+        let mut flags = Grid::new(front(&mut self.flags, lent.cells[1]), lent.widths[1]);
+        let mut values = Grid::new(front(&mut self.values, lent.cells[2]), lent.widths[2]);
+        let posts = front(&mut self.posts, lent.places);
+        [
+            refused(board.send(&mut clocks, &mut flags, &mut values, posts, 2, 9)),
+            refused(board.receive(&mut clocks, &mut flags, &mut values, posts, 2, 9)),
+            refused(board.mark(&mut clocks, &mut flags, &mut values, posts, 2, 9)),
+            refused(board.mark_judged(&mut clocks, &mut flags, &mut values, posts, 2, 9)),
+            refused(board.state(&clocks, &flags, &values, posts, 9)),
+            refused(board.left(&clocks, &flags, &values, posts)),
+            refused(MeasuredBoard::make(
+                pattern,
+                2,
+                2,
+                &mut clocks,
+                &mut flags,
+                &mut values,
+                posts,
+            )),
+        ]
+    }
+
+    // Makes a board under the pattern, in just enough of the memory.
+    fn make(&mut self, pattern: Pattern) -> Result<MeasuredBoard<Pattern>, Refusal> {
+        let clocks = &mut Grid::new(front(&mut self.clocks, 8), 2);
+        let flags = &mut Grid::new(front(&mut self.flags, 8), 2);
+        let values = &mut Grid::new(front(&mut self.values, 8), 2);
+        let posts = front(&mut self.posts, 2);
+        MeasuredBoard::make(pattern, 2, 2, clocks, flags, values, posts)
+    }
+
+    // Hands a call to that board.
+    fn hand(&mut self, board: &MeasuredBoard<Pattern>, call: Call) -> Result<Answer<u64>, Refusal> {
+        let clocks = &mut Grid::new(front(&mut self.clocks, 8), 2);
+        let flags = &mut Grid::new(front(&mut self.flags, 8), 2);
+        let values = &mut Grid::new(front(&mut self.values, 8), 2);
+        let posts = front(&mut self.posts, 2);
+        board.hand(clocks, flags, values, posts, call)
+    }
+
+    // A unit of that board makes a mark, which the pattern judges.
+    fn judge(
+        &mut self,
+        board: &MeasuredBoard<Pattern>,
+        unit: usize,
+        label: u8,
+    ) -> Result<JudgedMark<u64>, Refusal> {
+        let clocks = &mut Grid::new(front(&mut self.clocks, 8), 2);
+        let flags = &mut Grid::new(front(&mut self.flags, 8), 2);
+        let values = &mut Grid::new(front(&mut self.values, 8), 2);
+        board.mark_judged(clocks, flags, values, &self.posts, unit, label)
+    }
+
+    // Makes a board without measures there.
+    fn make_bare(&mut self) -> Result<Board, Refusal> {
+        let clocks = &mut Grid::new(front(&mut self.clocks, 8), 2);
+        let flags = &mut Grid::new(front(&mut self.flags, 8), 2);
+        Board::make(2, 2, clocks, flags, front(&mut self.posts, 2))
+    }
+
+    // Hands a call to that one.
+    fn hand_bare(&mut self, board: &Board, call: Call) -> Result<Answer<()>, Refusal> {
+        let clocks = &mut Grid::new(front(&mut self.clocks, 8), 2);
+        let flags = &mut Grid::new(front(&mut self.flags, 8), 2);
+        let posts = front(&mut self.posts, 2);
+        match call.event {
+            Event::Send(message) => {
+                let own = board.send(clocks, flags, posts, call.unit, message)?;
+                Ok(Answer::OwnClock(own))
+            }
+            Event::Receive(message) => {
+                let own = board.receive(clocks, flags, posts, call.unit, message)?;
+                Ok(Answer::OwnClock(own))
+            }
+            Event::Mark(_) => {
+                let marked = board.mark(clocks, flags, posts, call.unit)?;
+                Ok(Answer::Marked(marked))
+            }
+        }
+    }
+}
+
+// Sizes that a board cannot have, and sizes for which there is no memory here.
+#[test]
+fn sizes_that_are_refused(rt: HostRuntime) -> Result<(), Fail> {
+    let count = FlowCount::new(1)?;
+    for (units, messages, number) in [
+        (0, 0, 1),
+        (17, 0, 1),
+        (0, 256, 1),
+        (17, 256, 1),
+        (1, 256, 2),
+        (16, 256, 2),
+        (1, 0, 3),
+        (16, 255, 3),
+    ] {
+        let clocks = &mut Grid::new(&mut [], units);
+        let flags = &mut Grid::new(&mut [], units);
+        let values = &mut Grid::new(&mut [], units);
+        let bare = Board::make(units, messages, clocks, flags, &mut []);
+        let made = MeasuredBoard::make(count, units, messages, clocks, flags, values, &mut []);
+        assert_eq!(rt; refused(bare), Some(number));
+        assert_eq!(rt; refused(made), Some(number));
+    }
+    assert_eq!(rt; refused(Board::sized(0, 256)), Some(1));
+    assert_eq!(rt; refused(Board::sized(16, 256)), Some(2));
+    assert_eq!(rt; refused(Board::sized(16, 255)), None);
+    Ok(())
+}
+
+// Makes the largest board, of 271 rows of 16 cells, in that many cells.
+fn largest(cells: usize) -> Result<Board, Refusal> {
+    let (mut clocks, mut flags, mut posts) = ([9; 4336], [true; 4336], [Post::Delivered; 255]);
+    let clocks = &mut Grid::new(front(&mut clocks, cells), 16);
+    let flags = &mut Grid::new(front(&mut flags, cells), 16);
+    Board::make(16, 255, clocks, flags, &mut posts)
+}
+
+#[test]
+fn the_largest_board(rt: HostRuntime) {
+    assert_eq!(rt; largest(4336), Board::sized(16, 255));
+    assert_eq!(rt; refused(largest(4335)), Some(3));
+}
+
+// Memory is asked for before all else, and nothing is written where it is too short. Without measures no values are asked for.
+#[test]
+fn memory_that_is_too_short(rt: HostRuntime) -> Result<(), Fail> {
+    let pattern = Pattern::read(&PATTERN)?;
+    let mut memory = WRITTEN_BEFORE;
+    let made = memory.make(pattern)?;
+    let bare = Board::sized(2, 2)?;
+    memory = WRITTEN_BEFORE;
+    for lent in SHORT {
+        assert_eq!(rt; memory.refusals(&bare, lent), [Some(3); 8]);
+        assert_eq!(rt;
+            memory.measured_refusals(pattern, &made, lent),
+            [Some(3); 7]
+        );
+        assert_eq!(rt; memory, WRITTEN_BEFORE);
+    }
+    for lent in SHORT_OF_VALUES {
+        assert_eq!(rt;
+            memory.measured_refusals(pattern, &made, lent),
+            [Some(3); 7]
+        );
+        assert_eq!(rt; memory, WRITTEN_BEFORE);
+    }
+    assert_eq!(rt;
+        memory.measured_refusals(pattern, &made, ENOUGH),
+        [Some(4), Some(4), Some(4), Some(4), Some(5), None, None]
+    );
+    assert_eq!(rt; memory.values, [1, 1, 1, 1, 1, 1, 1, 1, 9, 9, 9, 9]);
+    assert_eq!(rt;
+        memory.refusals(&bare, ENOUGH),
+        [
+            Some(4),
+            Some(4),
+            Some(4),
+            Some(4),
+            Some(4),
+            Some(5),
+            None,
+            None
+        ]
+    );
+    Ok(())
+}
+
+// The calls on a board of 2 units and 2 messages with 3 labels, each with the number of its refusal, if it is refused.
+const QUESTIONS: [(usize, Event, Option<u8>); 14] = [
+    (2, Event::Send(9), Some(4)),
+    (0, Event::Send(2), Some(5)),
+    (2, Event::Receive(9), Some(4)),
+    (0, Event::Receive(2), Some(5)),
+    (0, Event::Receive(0), Some(8)),
+    (0, Event::Send(0), None),
+    (0, Event::Send(0), Some(7)),
+    (1, Event::Send(0), Some(7)),
+    (1, Event::Receive(0), None),
+    (1, Event::Receive(0), Some(9)),
+    (0, Event::Send(0), Some(7)),
+    (2, Event::Mark(3), Some(4)),
+    (0, Event::Mark(3), Some(6)),
+    (0, Event::Mark(2), None),
+];
+
+// The questions of the calls in their order; a call that is refused leaves the memory as it was.
+#[test]
+fn questions_of_the_calls(rt: HostRuntime) -> Result<(), Fail> {
+    let mut memory = WRITTEN_BEFORE;
+    let board = memory.make(Pattern::read(&PATTERN)?)?;
+    for (unit, event, number) in QUESTIONS {
+        let before = memory;
+        let answered = memory.hand(&board, Call { unit, event });
+        assert_eq!(rt; refused(answered), number);
+        assert_eq!(rt; number.is_some(), memory == before);
+    }
+    Ok(())
+}
+
+// A unit's own clock goes up to 65,535; a label that the measure lacks is told before a full clock.
+#[test]
+fn the_last_mark_of_a_unit(rt: HostRuntime) -> Result<(), Fail> {
+    let (mut clocks, mut flags, mut values) = ([0], [false], [Ends::default()]);
+    let clocks = &mut Grid::new(&mut clocks, 1);
+    let flags = &mut Grid::new(&mut flags, 1);
+    let values = &mut Grid::new(&mut values, 1);
+    let span = Span::new(1, 9)?;
+    let made = MeasuredBoard::make(span, 1, 0, clocks, flags, values, &mut [])?;
+    for clock in 1..=65535 {
+        let told = made.mark(clocks, flags, values, &[], 0, 0)?;
+        assert_eq!(rt; told.clock, clock);
+    }
+    let full = Ends {
+        shortest: 65535,
+        longest: 65535,
+    };
+    assert_eq!(rt;
+        refused(made.mark(clocks, flags, values, &[], 0, 1)),
+        Some(6)
+    );
+    assert_eq!(rt;
+        refused(made.mark(clocks, flags, values, &[], 0, 0)),
+        Some(10)
+    );
+    let bare = Board::sized(1, 0)?;
+    assert_eq!(rt; refused(bare.mark(clocks, flags, &[], 0)), Some(10));
+    assert_eq!(rt; clocks.cell(0, 0), Some(65535));
+    assert_eq!(rt; values.cell(0, 0), Some(full));
+    Ok(())
+}
+
+// Player waits first: unit 1 waits and tells unit 0, which then hears the beacon and tells unit 1, which starts the sound.
+// Each call with the own clock that it is told, and of a mark its predecessors and its value.
+const PLAYER_WAITS_FIRST: [(usize, Event, Clock, Option<(u64, u64)>); 7] = [
+    (1, Event::Mark(1), 1, Some((0, 0x02))),
+    (1, Event::Send(0), 1, None),
+    (0, Event::Receive(0), 0, None),
+    (0, Event::Mark(0), 1, Some((2, 0x04))),
+    (0, Event::Send(1), 1, None),
+    (1, Event::Receive(1), 1, None),
+    (1, Event::Mark(2), 2, Some((1, 0x08))),
+];
+
+#[test]
+fn the_player_waits_first(rt: HostRuntime) -> Result<(), Fail> {
+    let (mut memory, mut bare_memory) = (WRITTEN_BEFORE, WRITTEN_BEFORE);
+    let made = memory.make(Pattern::read(&PATTERN)?)?;
+    let bare = bare_memory.make_bare()?;
+    for (unit, event, clock, mark) in PLAYER_WAITS_FIRST {
+        let call = Call { unit, event };
+        let answered = memory.hand(&made, call);
+        assert_eq!(rt; told(answered), Ok((clock, mark)));
+        let bare_mark = mark.map(|(predecessors, _)| (predecessors, ()));
+        let bare_answered = bare_memory.hand_bare(&bare, call);
+        assert_eq!(rt; told(bare_answered), Ok((clock, bare_mark)));
+    }
+    assert_eq!(rt; bare_memory.clocks, memory.clocks);
+    assert_eq!(rt; bare_memory.flags, memory.flags);
+    assert_eq!(rt; bare_memory.posts, [Post::Delivered; 3]);
+    assert_eq!(rt; bare_memory.values, WRITTEN_BEFORE.values);
+    Ok(())
+}
+
+// What a board says of itself while one message is on its way, with the measure and without it.
+#[test]
+fn a_message_on_its_way(rt: HostRuntime) -> Result<(), Fail> {
+    let mut memory = WRITTEN_BEFORE;
+    let board = memory.make(Pattern::read(&PATTERN)?)?;
+    let bare = Board::sized(2, 2)?;
+    let call = Call {
+        unit: 1,
+        event: Event::Send(0),
+    };
+    assert_eq!(rt; told(memory.hand(&board, call)), Ok((0, None)));
+    let clocks = &Grid::new(front(&mut memory.clocks, 8), 2);
+    let flags = &Grid::new(front(&mut memory.flags, 8), 2);
+    let values = &Grid::new(front(&mut memory.values, 8), 2);
+    let posts = front(&mut memory.posts, 2);
+    assert_eq!(rt;
+        board.state(clocks, flags, values, posts, 0),
+        Ok(Post::OnItsWay)
+    );
+    assert_eq!(rt; board.left(clocks, flags, values, posts), Ok(1));
+    assert_eq!(rt;
+        bare.fits(values) && bare.has_memory(clocks, flags, posts),
+        true
+    );
+    assert_eq!(rt; bare.ask_unit(clocks, flags, posts, 1), Ok(()));
+    assert_eq!(rt;
+        bare.ask_message(clocks, flags, posts, 0, 0, Handling::Receiving),
+        Ok(Post::Delivered)
+    );
+    assert_eq!(rt; bare.state(clocks, flags, posts, 1), Ok(Post::Unsent));
+    assert_eq!(rt; bare.left(clocks, flags, posts), Ok(1));
+    Ok(())
+}
+
+// Unit 1 tells unit 0 that it waits, and goes on waiting while unit 0 hears the beacon: one flow to the sound has the beacon, the other
+// has not.
+#[test]
+fn one_flow_of_two_is_good(rt: HostRuntime) -> Result<(), Fail> {
+    let mut memory = WRITTEN_BEFORE;
+    let board = memory.make(Pattern::read(&PATTERN)?)?;
+    for (unit, event) in [
+        (1, Event::Mark(1)),
+        (1, Event::Send(0)),
+        (0, Event::Receive(0)),
+        (0, Event::Mark(0)),
+        (0, Event::Send(1)),
+        (1, Event::Mark(1)),
+        (1, Event::Receive(1)),
+    ] {
+        memory.hand(&board, Call { unit, event })?;
+    }
+    let sound = memory.judge(&board, 1, 2)?;
+    assert_eq!(rt;
+        sound.mark,
+        Marked {
+            clock: 3,
+            predecessors: 3,
+            value: 0x18,
+        }
+    );
+    assert_eq!(rt;
+        sound.verdict,
+        Verdict {
+            some: true,
+            all: false,
+        }
+    );
+    Ok(())
+}
+
+// Unit 1 waits and tells unit 0, which then hears the beacon; unit 2 hears it too. Both tell unit 1, which starts the sound. One flow
+// that ends there is good, and the other, beacon and sound, is not.
+fn two_flows(beacon: u8, waiting: u8, sound: u8) -> [Call; 10] {
+    [
+        (1, Event::Mark(waiting)),
+        (1, Event::Send(0)),
+        (0, Event::Receive(0)),
+        (0, Event::Mark(beacon)),
+        (0, Event::Send(1)),
+        (2, Event::Mark(beacon)),
+        (2, Event::Send(2)),
+        (1, Event::Receive(1)),
+        (1, Event::Receive(2)),
+        (1, Event::Mark(sound)),
+    ]
+    .map(|(unit, event)| Call { unit, event })
+}
+
+// The own clock that a call was told, and with it the predecessors and the value of a mark; or the number of the refusal.
+fn told<V: Copy>(answered: Result<Answer<V>, Refusal>) -> Result<(Clock, Option<(u64, V)>), u8> {
+    match answered {
+        Ok(Answer::OwnClock(clock)) => Ok((clock, None)),
+        Ok(Answer::Marked(mark)) => Ok((mark.clock, Some((mark.predecessors, mark.value)))),
+        Err(refusal) => Err(u8::from(refusal)),
+    }
+}
+
+// Hands calls to a new board of 3 units and 3 messages. Answers how many were handed in and how many messages are then on their way.
+fn replayed<M: Measure>(
+    measure: M,
+    values: &mut [M::Value],
+    calls: &[Call],
+    answers: &mut [Result<Answer<M::Value>, Refusal>],
+) -> Result<(usize, usize), Refusal>
+where
+    M: Drop,
+{
+    let (mut clocks, mut flags, mut posts) = ([9; 18], [true; 18], [Post::Delivered; 3]);
+    let clocks = &mut Grid::new(&mut clocks, 3);
+    let flags = &mut Grid::new(&mut flags, 3);
+    let values = &mut Grid::new(values, 3);
+    let count = replay(
+        measure, 3, 3, clocks, flags, values, &mut posts, calls, answers,
+    )?;
+    let left = Board::sized(3, 3)?.left(clocks, flags, &posts)?;
+    Ok((count, left))
+}
+
+// An answer place that no call has written: a refusal that no board gives.
+const UNWRITTEN: Refusal = Refusal::StampLength;
+
+#[test]
+fn calls_replayed_under_the_pattern(rt: HostRuntime) -> Result<(), Fail> {
+    let pattern = Pattern::read(&PATTERN)?;
+    let mut answers = [Err(UNWRITTEN); 12];
+    let counts = replayed(pattern, &mut [9; 18], &two_flows(0, 1, 2), &mut answers)?;
+    assert_eq!(rt; counts, (10, 0));
+    assert_eq!(rt;
+        answers.map(told),
+        [
+            Ok((1, Some((0, 0x02)))),
+            Ok((1, None)),
+            Ok((0, None)),
+            Ok((1, Some((2, 0x04)))),
+            Ok((1, None)),
+            Ok((1, Some((0, 0x10)))),
+            Ok((1, None)),
+            Ok((1, None)),
+            Ok((1, None)),
+            Ok((2, Some((5, 0x18)))),
+            Err(12),
+            Err(12),
+        ]
+    );
+    Ok(())
+}
+
+// With fewer places for answers than calls, the calls beyond them are left; where no board is made, all are.
+#[test]
+fn calls_that_are_left(rt: HostRuntime) -> Result<(), Fail> {
+    let pattern = Pattern::read(&PATTERN)?;
+    let calls = two_flows(0, 1, 2);
+    let mut answers = [Err(UNWRITTEN); 3];
+    assert_eq!(rt;
+        replayed(pattern, &mut [9; 18], &calls, &mut answers[..2])?,
+        (2, 1)
+    );
+    assert_eq!(rt;
+        answers.map(told),
+        [Ok((1, Some((0, 0x02)))), Ok((1, None)), Err(12)]
+    );
+    let short = replayed(pattern, &mut [9; 17], &calls, &mut answers);
+    assert_eq!(rt; refused(short), Some(3));
+    assert_eq!(rt; told(answers[0]), Ok((1, Some((0, 0x02)))));
+    Ok(())
+}
+
+// The sound at the end of the calls: two flows, of two and of three marks; and the same states by other labels.
+#[test]
+fn the_last_mark_under_other_measures(rt: HostRuntime) -> Result<(), Fail> {
+    let calls = two_flows(0, 1, 2);
+    let mut counts = [Err(UNWRITTEN); 10];
+    replayed(FlowCount::new(3)?, &mut [9; 18], &calls, &mut counts)?;
+    assert_eq!(rt; told(counts[9]), Ok((2, Some((5, 2)))));
+    let both = Ends {
+        shortest: 2,
+        longest: 3,
+    };
+    let written = Ends {
+        shortest: 9,
+        longest: 9,
+    };
+    let mut spans = [Err(UNWRITTEN); 10];
+    replayed(Span::new(3, 2)?, &mut [written; 18], &calls, &mut spans)?;
+    assert_eq!(rt; told(spans[9]), Ok((2, Some((5, both)))));
+    let pattern = Pattern::read(&PATTERN)?;
+    let relabelling = Relabelling::read(&[0x30, 3, 1, 2, 0], 0, pattern)?;
+    let mut sets = [Err(UNWRITTEN); 10];
+    replayed(relabelling, &mut [9; 18], &two_flows(2, 0, 1), &mut sets)?;
+    assert_eq!(rt; told(sets[9]), Ok((2, Some((5, 0x18)))));
+    Ok(())
+}
+
+// The judge's verdict on the last of a unit's marks, which are all that there is.
+fn judged<J: Judge>(
+    judge: J,
+    values: &mut [J::Value],
+    labels: &[u8],
+) -> Result<Option<Verdict>, Refusal>
+where
+    J: Drop,
+{
+    let (mut clocks, mut flags, mut last) = ([0], [false], None);
+    let clocks = &mut Grid::new(&mut clocks, 1);
+    let flags = &mut Grid::new(&mut flags, 1);
+    let values = &mut Grid::new(values, 1);
+    let board = MeasuredBoard::make(judge, 1, 0, clocks, flags, values, &mut [])?;
+    for &label in labels {
+        let told = board.mark_judged(clocks, flags, values, &[], 0, label)?;
+        last = Some(told.verdict);
+    }
+    Ok(last)
+}
+
+// Waiting, beacon, sound: by other labels, and in a span of at most two marks.
+#[test]
+fn marks_judged(rt: HostRuntime) -> Result<(), Fail> {
+    let good = Verdict {
+        some: true,
+        all: true,
+    };
+    let bad = Verdict {
+        some: false,
+        all: false,
+    };
+    let pattern = Pattern::read(&PATTERN)?;
+    let relabelling = Relabelling::read(&[0x30, 3, 1, 2, 0], 0, pattern)?;
+    let span = Span::new(3, 2)?;
+    assert_eq!(rt; judged(relabelling, &mut [0], &[0, 2, 1])?, Some(good));
+    assert_eq!(rt; judged(relabelling, &mut [0], &[0, 2])?, Some(bad));
+    assert_eq!(rt; judged(span, &mut [Ends::default()], &[1, 0])?, Some(good));
+    assert_eq!(rt;
+        judged(span, &mut [Ends::default()], &[1, 0, 2])?,
+        Some(bad)
+    );
+    Ok(())
+}

@@ -1,0 +1,224 @@
+-- The law of boards follows from the law of runs: what a board answered and what its memory shows are a run's.
+use Rattle.std.proofs.Common.{◌≡◌, ℕ, ◌+◌, ◌*◌, ◌-◌, ◌<◌, ◌≤◌, Bool, true, false, ◌⊎◌, List, [], ◌∷◌, ◌++◌, length, map, take, set, get_or, Some, None, Ok, Err, Result, IsTrue, sym, refl, ap, ap₂, ◌∙◌, subst, inl, inr, ⊎_elim, suc, arith, rules}
+use Rattle.std.specs.List.{slice_get}
+use Rattle.std.specs.Option.{option_map}
+use Rattle.std.specs.Prelude.{slice_index, slice_index_or}
+use Rattle.std.proofs.lemmas.Bool.{cases_lt, le-ltb, lt-ltb}
+use Rattle.std.proofs.lemmas.List.{get_or_past, map_more, map_push, places, take_more, take_more_set}
+use Rattle.std.proofs.lemmas.Grind.{common_steps}
+use Rattle.std.proofs.lemmas.Option.{slice_get-map}
+use Rattle.history.specs.declared.messages.Post.{Post}
+use Rattle.history.specs.declared.messages.Post.TheVariants.{Unsent}
+use Rattle.history.specs.declared.refusals.Refusal.{Refusal}
+use Rattle.history.specs.declared.refusals.Refusal.TheVariants.{MemoryTooShort}
+use Rattle.grid.specs.Rows.{row}
+use Rattle.history.specs.Counting.{HowMany}
+use Rattle.history.specs.Events.{Events, send, receive, mark}
+use Rattle.history.specs.HappenedBefore.{UpTo}
+use Rattle.history.specs.Stamps.{Stamp}
+use Rattle.history.proofs.RowOf.{Row}
+use Rattle.history.proofs.Runs.{SoundAt, sound_run}
+use Rattle.history.proofs.Sound.{Ranged}
+use Rattle.history.proofs.Stamps.{clocks_stamp}
+use Rattle.history.specs.Marks.{IsMark, marks}
+use Rattle.history.specs.Rows.{Cell, Payload}
+use Rattle.history.specs.Runs.{Size, Call}
+use Rattle.history.specs.Board.{State, Answer, Reply, new_history, own_clock, marked, outcomes, run}
+use Rattle.history.specs.Laws.{Alike, OrderFree, answers_of}
+use Rattle.history.proofs.Accepting.{accepts_runs}
+use Rattle.history.proofs.Answering.{messages_answered}
+use Rattle.history.proofs.OrderFree.{order_free}
+use Rattle.history.proofs.Outcomes.{outcomes_told}
+use Rattle.causality.specs.Boards.{Memory, Holds, Shows, Follows, Makes, most_marks, state_answer, left_answer}
+use Rattle.causality.proofs.Leaving.{each_shows, travelling_same}
+use Rattle.measures.specs.Words.{Word}
+use Rattle.measures.specs.Measures.{Meaning, Lawful}
+use Rattle.measures.specs.Worths.{carrying, sized}
+use Rattle.measures.specs.Laws.{accepted_events, Valued, Judged, AtMarks, MarksJudged}
+use Rattle.measures.specs.Boards.{StandAlike, Obeys, taken, Played, MarkAnswered, Agree, AtAnswers, MarksGood, LawOfBoards}
+use Rattle.measures.proofs.Judging.{marks_judged}
+use Rattle.measures.proofs.Replaying.{state_push, outcomes_push, last_outcome, accepted_taken}
+use Rattle.measures.proofs.Valuing.{valued}
+
+-- What an accepted call was told is what it was answered.
+reply_told : {V : Type 0} (M : Payload V) (z : Size) (cs : List Call) (u i : ℕ) (r : Reply V) → slice_get ((run M z cs).told u) i ≡ Some r
+    → slice_get (answers_of u cs (outcomes M z cs)) i ≡ Some r.answer
+reply_told {V} M z cs u i r e =
+    ap (λ (l : List (Answer V)). slice_get l i) (sym (outcomes_told V M z cs u))
+    ∙ slice_get-map (λ (x : Reply V). x.answer) ((run M z cs).told u) i
+    ∙ ap (option_map (λ (x : Reply V). x.answer)) e
+
+-- A row of a board of n units and k messages is a unit's or a message's.
+row_cases : (n k r : ℕ) → r < n + k → (r < n) ⊎ ((p : ℕ) × (p < k) × (r ≡ n + p))
+row_cases n k r h = ⊎_elim inl (λ (l : n ≤ r). inr (r - n, omega arith, omega arith)) (cases_lt r n)
+
+module _ {V : Type 0} (n k : ℕ) (s t : State V) (rows : (u j : ℕ) → s.rows u j ≡ t.rows u j) (message_rows : (p j : ℕ) → s.message_rows p j ≡ t.message_rows p j) where
+  -- Grids that hold one part of states with the same rows hold the same in each row.
+  same_grid : {X : Type 0} (part : Cell V → X) (other : X) (xs ys : List X) → Holds part other n k xs s → Holds part other n k ys t
+      → (r j : ℕ) → r < n + k → j < n → slice_index_or xs (r * n + j) other ≡ slice_index_or ys (r * n + j) other
+  same_grid part other xs ys a b r j h w = elim (row_cases n k r h) [
+    | inl l ↦ a.rows r j l w ∙ ap part (rows r j) ∙ sym (b.rows r j l w)
+    | inr (p, l, e) ↦ rw e (a.message_rows p j l w ∙ ap part (message_rows p j) ∙ sym (b.message_rows p j l w))
+  ]
+
+  -- Memories that show such states stand alike.
+  stand_alike : (start : V) (a b : Memory V) → ((p : ℕ) → s.posts p ≡ t.posts p) → Shows start n k a s → Shows start n k b t → StandAlike start n k a b
+  stand_alike start a b posts x y = record {
+    clocks = same_grid (λ c. c.clock) 0 a.clocks b.clocks x.clocks y.clocks;
+    flags = same_grid (λ c. c.flag) false a.flags b.flags x.flags y.flags;
+    values = same_grid (λ c. c.value) start a.values b.values x.values y.values;
+    posts = λ p h. x.posts p h ∙ posts p ∙ sym (y.posts p h);
+  }
+
+module _ {V : Type 0} (start : V) (n k : ℕ) (a b : Memory V) (alike : StandAlike start n k a b) where
+  -- On boards that stand alike the question for the state of a message is answered alike.
+  same_states : (p : ℕ) → state_answer k true a.posts p ≡ state_answer k true b.posts p
+  same_states p = elim (cases_lt p k) [
+    | inl l ↦ rw (lt-ltb p k l) (ap (λ (x : Post). Ok x) (alike.posts p l))
+    | inr h ↦ rw (le-ltb p k h) refl
+  ]
+
+  -- So is the question for the number of messages on their way.
+  same_left : left_answer k true a.posts ≡ left_answer k true b.posts
+  same_left = ap (λ (t : ℕ). Ok t) (travelling_same (λ p. slice_index_or a.posts p Unsent) (λ p. slice_index_or b.posts p Unsent) k alike.posts)
+
+module _ {V : Type 0} (m : Meaning V) (n k : ℕ) where
+  -- what the cells of such a board carry, and its size
+  abbrev M : Payload V
+  M = carrying m n
+
+  abbrev z : Size
+  z = sized m n k most_marks
+
+  -- a board just made was handed no call
+  played_made : (old new : Memory V) → Makes M n k None old new → Played m n k [] [] new
+  played_made old new h = record { answers_are = refl; shows = h.state refl }
+
+  -- a call that follows the rules is one more
+  played_called : (cs : List Call) (xs : List (Result (Answer V) Refusal)) (old new : Memory V) (c : Call) (x : Result (Answer V) Refusal)
+      → Played m n k cs xs old → Follows M z c true old new x → Played m n k (cs ++ c ∷ []) (xs ++ x ∷ []) new
+  played_called cs xs old new c x p f =
+      let s = (run M z cs).state in
+      record {
+        answers_are = ap₂ (λ (l : List (Result (Answer V) Refusal)) (y : Result (Answer V) Refusal). l ++ y ∷ []) p.answers_are (f.answer s p.shows)
+            ∙ sym (outcomes_push M z cs c);
+        shows = subst (Shows m.start n k new) (sym (state_push M z cs c)) (f.state s p.shows);
+      }
+
+  -- A call whose memory is too short is refused, and the board stands as it did.
+  played_short : (cs : List Call) (xs : List (Result (Answer V) Refusal)) (old new : Memory V) (c : Call) (x : Result (Answer V) Refusal)
+      → Played m n k cs xs old → Follows M z c false old new x → (x ≡ Err MemoryTooShort) × Played m n k cs xs new
+  played_short cs xs old new c x p f =
+      let s = (run M z cs).state in (f.answer s p.shows, record { answers_are = p.answers_are; shows = f.state s p.shows })
+
+  -- One call more of two lists that a loop goes over, which writes each answer where a thing of its own stood.
+  pub played_mapped : {A B : Type 0} (f : A → Call) (g : B → Result (Answer V) Refusal) (ds : List A) (ys : List B) (i : ℕ) (d : A) (y : B)
+      → i < length ds → i < length ys → (old new : Memory V) → Played m n k (map f (take i ds)) (map g (take i ys)) old
+      → Obeys m n k (f (get_or ds i d)) true old new (g y) → Played m n k (map f (take (i + 1) ds)) (map g (take (i + 1) (set ys i y))) new
+  played_mapped f g ds ys i d y h h' old new p o =
+      rw (map_more f ds i d h, take_more_set ys i y h', map_push g (take i ys) y)
+      (played_called (map f (take i ds)) (map g (take i ys)) old new (f (get_or ds i d)) (g y) p o)
+
+  -- The same of lists of calls and of answers themselves.
+  pub played_more : (cs : List Call) (xs : List (Result (Answer V) Refusal)) (i : ℕ) (d : Call) (x : Result (Answer V) Refusal)
+      → i < length cs → i < length xs → (old new : Memory V) → Played m n k (take i cs) (take i xs) old
+      → Obeys m n k (get_or cs i d) true old new x → Played m n k (take (i + 1) cs) (take (i + 1) (set xs i x)) new
+  played_more cs xs i d x h h' old new p o =
+      rw (take_more cs i d h, take_more_set xs i x h')
+      (played_called (take i cs) (take i xs) old new (get_or cs i d) x p o)
+
+  -- Boards whose histories stand alike stand alike.
+  played_alike : (cs ds : List Call) (xs ys : List (Result (Answer V) Refusal)) (a b : Memory V) → Played m n k cs xs a → Played m n k ds ys b
+      → Alike (run M z cs) (run M z ds) → StandAlike m.start n k a b
+  played_alike cs ds xs ys a b p q h =
+      stand_alike n k (run M z cs).state (run M z ds).state h.rows h.message_rows m.start a b h.posts p.shows q.shows
+
+  -- The same accepted calls unit by unit: the same answers, and boards that stand alike.
+  played_agree : (cs ds : List Call) (xs ys : List (Result (Answer V) Refusal)) (a b : Memory V) → Played m n k cs xs a → Played m n k ds ys b
+      → OrderFree M z cs ds → Agree m n k cs ds xs ys a b
+  played_agree cs ds xs ys a b p q o = let same = played_alike cs ds xs ys a b p q o.alike in record {
+    answers = λ u. ap (answers_of u cs) p.answers_are ∙ o.answers u ∙ sym (ap (answers_of u ds) q.answers_are);
+    alike = same;
+    one_more = λ c x y a' b' p' q'. (
+      last_outcome M z cs c xs x p'.answers_are
+          ∙ o.one_more c
+          ∙ sym (last_outcome M z ds c ys y q'.answers_are),
+      played_alike (cs ++ c ∷ []) (ds ++ c ∷ []) (xs ++ x ∷ []) (ys ++ y ∷ []) a' b' p' q' (o.one_more_alike c),
+    );
+    states = same_states m.start n k a b same;
+    left = same_left m.start n k a b same;
+  }
+
+  -- What a mark was told is what it was answered.
+  mark_answered : (cs : List Call) (xs : List (Result (Answer V) Refusal)) (memory : Memory V) → Played m n k cs xs memory
+      → (u i : ℕ) → Valued m n k most_marks cs u i → MarkAnswered m n k cs xs u i
+  mark_answered cs xs memory p u i v = record {
+    valued = v;
+    answer = ap (λ (l : List (Result (Answer V) Refusal)). slice_get (answers_of u cs l) i) p.answers_are
+        ∙ reply_told M z cs u i (record { answer = marked v.answered.clock v.answered.predecessors v.answered.value; stamp = v.answered.stamp }) v.answered.told;
+  }
+
+  -- What a send or a receipt was told is what it was answered.
+  message_answered : (cs : List Call) (xs : List (Result (Answer V) Refusal)) (memory : Memory V) → Played m n k cs xs memory → (u i p : ℕ)
+      → (accepted_events m n k most_marks cs u i ≡ Some (send p)) ⊎ (accepted_events m n k most_marks cs u i ≡ Some (receive p))
+      → slice_get (answers_of u cs xs) i ≡ Some (own_clock (marks (accepted_events m n k most_marks cs) u i))
+  message_answered cs xs memory q u i p e =
+      let (stamp, told) = messages_answered V M z cs u i p e in
+      ap (λ (l : List (Result (Answer V) Refusal)). slice_get (answers_of u cs l) i) q.answers_are
+      ∙ reply_told M z cs u i (record { answer = own_clock (marks (accepted_events m n k most_marks cs) u i); stamp = stamp }) told
+
+-- The stamp of a mark has no marks of units that the board does not have.
+no_marks : (ev : Events) (z : Size) → Ranged ev z → (v : ℕ) → z.units ≤ v → (P : ℕ → Type 0) → HowMany (λ j. IsMark ev v j × P j) 0
+no_marks ev z r v h P = ([], record { sound = λ j a. absurd a; complete = λ j a. (let w = r.unit v j a.0.0 a.0.1 in absurd (omega arith)); once = tt }, refl)
+
+-- As long as a mark's unit does nothing more, its row of clocks is the mark's stamp.
+module _ {V : Type 0} (m : Meaning V) (n k : ℕ) (cs : List Call) (xs : List (Result (Answer V) Refusal)) (memory : Memory V) (p : Played m n k cs xs memory)
+    (u i l : ℕ) (e : accepted_events m n k most_marks cs u i ≡ Some (mark l)) (last : length ((run (carrying m n) (sized m n k most_marks) cs).log u) ≡ suc i) where
+  sound : SoundAt (carrying m n) (sized m n k most_marks) (run (carrying m n) (sized m n k most_marks) cs)
+  sound = sound_run (carrying m n) (sized m n k most_marks) cs
+
+  row_stamp : Stamp (accepted_events m n k most_marks cs) u i (λ v. ((run (carrying m n) (sized m n k most_marks) cs).state.rows u v).clock)
+  row_stamp =
+      clocks_stamp (carrying m n) (accepted_events m n k most_marks cs) sound.once u i l e _
+      (subst (λ (j : ℕ). Row (carrying m n) (accepted_events m n k most_marks cs) u j ((run (carrying m n) (sized m n k most_marks) cs).state.rows u)) last (sound.rows_are u))
+
+  -- what a row that is read from the memory has for unit v
+  in_row : (v : ℕ) → v < n → slice_index (row memory.clocks n u) v ≡ ((run (carrying m n) (sized m n k most_marks) cs).state.rows u v).clock
+  in_row v h = read ∙ p.shows.clocks.rows u v (sound.ranged.unit u i l e) h
+    where
+      read : get_or (row memory.clocks n u) v 0 ≡ get_or memory.clocks (u * n + v) 0
+      read = search (rules, places)
+
+  past_row : (v : ℕ) → n ≤ v → slice_index (row memory.clocks n u) v ≡ 0
+  past_row v h = get_or_past (row memory.clocks n u) v 0 (grind (arith, common_steps))
+
+  board_stamp : Stamp (accepted_events m n k most_marks cs) u i (λ v. slice_index (row memory.clocks n u) v)
+  board_stamp v = elim (cases_lt v n) [
+    | inl h ↦ rw (in_row v h) (row_stamp v)
+    | inr h ↦ rw (past_row v h) (no_marks (accepted_events m n k most_marks cs) (sized m n k most_marks) sound.ranged v h (λ j. UpTo (accepted_events m n k most_marks cs) v j u i))
+  ]
+
+-- What is true of the value told at each mark of every run is true of the value answered.
+pub at_answers : {V : Type 0} (m : Meaning V) (P : Events → ℕ → ℕ → V → Type 0) → AtMarks m P → AtAnswers m P
+unfolding mark_answered
+at_answers m P law n k cs xs memory p u i l e = let (v, is) = law n k most_marks cs u i l e in (mark_answered m n k cs xs memory p u i v, is)
+
+-- so what a judge says of it
+pub marks_good : {V : Type 0} (m : Meaning V) (some all : V → Bool) (good : Word → Type 0) → MarksJudged m some all good → MarksGood m some all good
+marks_good m some all good law = at_answers m (λ ev u i v. Judged good (some v) (all v) ev u i) law
+
+-- The law of boards, for every lawful measure.
+pub law_of_boards : {V : Type 0} (m : Meaning V) (admits : V → Type 0) → Lawful m admits → LawOfBoards m admits
+law_of_boards m admits laws = record {
+  shows = λ n k. each_shows m.start n k;
+  made = λ n k old new h. played_made m n k old new h;
+  called = λ n k cs xs old new c x p f. played_called m n k cs xs old new c x p f;
+  short = λ n k cs xs old new c x p f. played_short m n k cs xs old new c x p f;
+  accepted_are = λ n k cs xs memory p. accepted_taken (carrying m n) (sized m n k most_marks) (new_history (carrying m n)) cs ∙ ap (taken cs) (sym p.answers_are);
+  accepts = λ n k cs. accepts_runs (carrying m n) (sized m n k most_marks) cs;
+  marks_answered = λ n k cs xs memory p u i l e. mark_answered m n k cs xs memory p u i (valued m admits laws n k most_marks cs u i l e);
+  stamped = λ n k cs xs memory p u i l e last. board_stamp m n k cs xs memory p u i l e last;
+  messages_answered = λ n k cs xs memory q u i p e. message_answered m n k cs xs memory q u i p e;
+  order = λ n k cs ds xs ys a b p q same. played_agree m n k cs ds xs ys a b p q (order_free (carrying m n) (sized m n k most_marks) cs ds same);
+  judged = λ some all good by_some by_all. marks_good m some all (λ w. IsTrue (good w)) (marks_judged m admits laws some all (λ w. IsTrue (good w)) by_some by_all);
+}
