@@ -101,7 +101,7 @@ module _ {V : Type 0} (m : Meaning V) (n k : ℕ) where
 
   -- a call that the lower board takes
   module _ (c : Call) (old new : Memory V) (a : Answer (Unit {0})) where
-    pub took : (f : Follows nothing z c true (bare_of old) (bare_of new) (Ok a)) (s : State V) → Shows m.start n k old s
+    took : (f : Follows nothing z c true (bare_of old) (bare_of new) (Ok a)) (s : State V) → Shows m.start n k old s
         → (refusal M z s c.unit c.act ≡ None) × (a ≡ answer_to nothing z c.unit c.act ((forget s).rows c.unit) ((acted nothing z (forget s) c.unit c.act).rows c.unit))
     took f s sh =
         let (o, e) = ok_taken _ _ a (f.answer (forget s) (shows_bare m.start n k old s sh)) in
@@ -123,10 +123,18 @@ module _ {V : Type 0} (m : Meaning V) (n k : ℕ) where
           (λ s sh. let (o, e) = took f s sh in told s sh o e)
           (record { clocks = f.beyond.clocks; flags = f.beyond.flags; values = beyond; posts = f.beyond.posts })
 
+    -- some state takes it
+    pub taken_in : Follows nothing z c true (bare_of old) (bare_of new) (Ok a) → (s : State V) × (refusal M z s c.unit c.act ≡ None)
+    taken_in f = let (s, sh) = each_shows m.start n k old in (s, (took f s sh).0)
+
     -- with no room no call is taken
     pub room_true : (room : Bool) → Follows nothing z c room (bare_of old) (bare_of new) (Ok a) → room ≡ true
     room_true true f = refl
     room_true false f = (let (s, sh) = each_shows m.start n k old in let e = f.answer (forget s) (shows_bare m.start n k old s sh) in cc)
+
+    -- so there is room for one that is
+    pub with_room : (room : Bool) → Follows nothing z c room (bare_of old) (bare_of new) (Ok a) → Follows nothing z c true (bare_of old) (bare_of new) (Ok a)
+    with_room room f = subst (λ (b : Bool). Follows nothing z c b (bare_of old) (bare_of new) (Ok a)) (room_true room f) f
 
 -- a call that is taken names a unit and a message of the board
 module _ {V : Type 0} (M : Payload V) (z : Size) (s : State V) (u : ℕ) where

@@ -1,5 +1,5 @@
 -- Marks under a measure: what a mark is worth by the memory, and the row that it leaves.
-use Rattle.std.proofs.Common.{◌≡◌, ℕ, zero, suc, ◌+◌, ◌*◌, ◌<◌, ◌≤◌, Bool, true, false, cond, eqb, List, [], length, Some, Ok, Option, unwrap_or, get_or, sym, refl, ap, ap₂, ◌∙◌, subst, inl, inr, arith, length-drop, length-take, rules}
+use Rattle.std.proofs.Common.{◌≡◌, ℕ, zero, suc, ◌+◌, ◌*◌, ◌<◌, ◌≤◌, Bool, true, false, cond, eqb, List, [], length, Some, Ok, Option, unwrap_or, get_or, sym, refl, ap, ap₂, ◌∙◌, inl, inr, arith, length-drop, length-take, rules}
 use Rattle.std.proofs.lemmas.Bool.{cases_eq, eq-eqb, ne_eqb}
 use Rattle.std.proofs.lemmas.Bool.Decides.{nat_tests}
 use Rattle.std.proofs.lemmas.List.{places}
@@ -14,12 +14,11 @@ use Rattle.history.specs.Rows.{Cell, nothing, mark_row}
 use Rattle.history.specs.Board.{State, Answer, marked, acted}
 use Rattle.causality.specs.Boards.{Memory, Holds, Shows, Follows, call, bare, fits_board, has_room, most_marks}
 use Rattle.causality.specs.Merging.{cell_at}
-use Rattle.causality.proofs.Leaving.{each_shows}
 use Rattle.causality.proofs.Showing.{same_from, holds_unit}
 use Rattle.measures.specs.Measures.{Meaning}
 use Rattle.measures.specs.Worths.{plus, gathered, worth, carrying, sized}
 use Rattle.measures.specs.Boards.{Obeys, lent, has_rooms}
-use Rattle.measures.proofs.Lifting.{bare_of, taken_obeys, took, room_true, acted_like, mark_named}
+use Rattle.measures.proofs.Lifting.{bare_of, taken_obeys, taken_in, with_room, room_true, acted_like, mark_named}
 
 -- what is gathered depends on flags and values alone
 gathered_same : {V : Type 0} (m : Meaning V) (r t : ℕ → Cell V) (n : ℕ) → ((j : ℕ) → j < n → ((r j).flag ≡ (t j).flag) × ((r j).value ≡ (t j).value)) → gathered m r n ≡ gathered m t n
@@ -49,12 +48,12 @@ module _ {V : Type 0} (m : Meaning V) (n k u l : ℕ) (clocks : Grid ℕ) (flags
     there = room_true m n k (call u (mark l)) (lent clocks flags values posts) new (marked clock units tt) _ f
 
     follows : Follows nothing (sized m n k most_marks) (call u (mark l)) true (bare clocks flags posts) (bare_of new) (Ok (marked clock units tt))
-    follows = subst (λ (b : Bool). Follows nothing (sized m n k most_marks) (call u (mark l)) b (bare clocks flags posts) (bare_of new) (Ok (marked clock units tt))) there f
+    follows = with_room m n k (call u (mark l)) (lent clocks flags values posts) new (marked clock units tt) _ f
 
     unit : u < n
     unit =
-        let (s, sh) = each_shows m.start n k (lent clocks flags values posts) in
-        mark_named (carrying m n) (sized m n k most_marks) s u l (took m n k (call u (mark l)) (lent clocks flags values posts) new (marked clock units tt) follows s sh).0
+        let (s, e) = taken_in m n k (call u (mark l)) (lent clocks flags values posts) new (marked clock units tt) follows in
+        mark_named (carrying m n) (sized m n k most_marks) s u l e
 
     module _ (s : State V) (sh : Shows m.start n k (lent clocks flags values posts) s) where
       worth_is : value ≡ worth m n (s.rows u) u l

@@ -16,7 +16,6 @@ use Rattle.history.specs.Board.{State, Answer, own_clock}
 use Rattle.causality.specs.Boards.{Memory, Shows, Follows, call, bare, fits_board, has_room, handling_refusal, clock_told, most_marks}
 use Rattle.causality.specs.Merging.{cells, merged}
 use Rattle.causality.proofs.Calling.{Room, room_row, handling_taken}
-use Rattle.causality.proofs.Leaving.{each_shows}
 use Rattle.causality.proofs.Showing.{same_from, holds_unit, holds_message}
 use Rattle.causality.proofs.Writing.{rows_there}
 use Rattle.measures.specs.Measures.{Meaning}
@@ -24,7 +23,7 @@ use Rattle.measures.specs.Worths.{carrying, sized}
 use Rattle.measures.specs.Boards.{Obeys, lent, has_rooms}
 use Rattle.measures.specs.Merging.{ask_value_rows, merged_values}
 use Rattle.measures.proofs.Asking.{receive_sure}
-use Rattle.measures.proofs.Lifting.{bare_of, taken_obeys, took, room_true, acted_like, send_named, receive_named}
+use Rattle.measures.proofs.Lifting.{bare_of, taken_obeys, taken_in, with_room, room_true, acted_like, send_named, receive_named}
 
 own_moved : {V : Type 0} (x y : ℕ) → (let a : Answer (Unit {0}) = own_clock x in a) ≡ own_clock y → (let b : Answer V = own_clock x in b) ≡ own_clock y
 own_moved x y e = ap own_clock (cc)
@@ -43,12 +42,12 @@ module _ {V : Type 0} (m : Meaning V) (n k u p : ℕ) (clocks : Grid ℕ) (flags
     room = room_true m n k (call u (send p)) (lent clocks flags values posts) new (own_clock own) _ f
 
     follows : Follows nothing (sized m n k most_marks) (call u (send p)) true (bare clocks flags posts) (bare_of new) (Ok (own_clock own))
-    follows = subst (λ (b : Bool). Follows nothing (sized m n k most_marks) (call u (send p)) b (bare clocks flags posts) (bare_of new) (Ok (own_clock own))) room f
+    follows = with_room m n k (call u (send p)) (lent clocks flags values posts) new (own_clock own) _ f
 
     pub send_taken : (u < n) × (p < k)
     send_taken =
-        let (s, sh) = each_shows m.start n k (lent clocks flags values posts) in
-        send_named (carrying m n) (sized m n k most_marks) s u p (took m n k (call u (send p)) (lent clocks flags values posts) new (own_clock own) follows s sh).0
+        let (s, e) = taken_in m n k (call u (send p)) (lent clocks flags values posts) new (own_clock own) follows in
+        send_named (carrying m n) (sized m n k most_marks) s u p e
 
     pub send_obeys : RowIs n (n + p) m.start (λ j. get_or values.cells.now (u * n + j) m.start) values.cells.now vs
         → Obeys m n k (call u (send p)) (has_rooms n k clocks flags values posts) (lent clocks flags values posts) new (Ok (own_clock own))
@@ -70,12 +69,12 @@ module _ {V : Type 0} (m : Meaning V) (n k u p : ℕ) (clocks : Grid ℕ) (flags
     heard_room = room_true m n k (call u (receive p)) (lent clocks flags values posts) new (own_clock own) _ f
 
     heard : Follows nothing (sized m n k most_marks) (call u (receive p)) true (bare clocks flags posts) (bare_of new) (Ok (own_clock own))
-    heard = subst (λ (b : Bool). Follows nothing (sized m n k most_marks) (call u (receive p)) b (bare clocks flags posts) (bare_of new) (Ok (own_clock own))) heard_room f
+    heard = with_room m n k (call u (receive p)) (lent clocks flags values posts) new (own_clock own) _ f
 
     receive_taken : (u < n) × (p < k)
     receive_taken =
-        let (s, sh) = each_shows m.start n k (lent clocks flags values posts) in
-        receive_named (carrying m n) (sized m n k most_marks) s u p (took m n k (call u (receive p)) (lent clocks flags values posts) new (own_clock own) heard s sh).0
+        let (s, e) = taken_in m n k (call u (receive p)) (lent clocks flags values posts) new (own_clock own) heard in
+        receive_named (carrying m n) (sized m n k most_marks) s u p e
 
     module _ (s : State V) (sh : Shows m.start n k (lent clocks flags values posts) s) where
       unit_cell : (j : ℕ) → j < n → cells m.start clocks.cells.now flags.cells.now values.cells.now n u j ≡ s.rows u j
