@@ -1,2 +1,4 @@
 pub mod Bits
 pub mod Members
+pub mod Parts
+pub mod Places

@@ -1,5 +1,5 @@
 -- Sets of numbers as the bits of a word.
-use Rattle.std.specs.Prelude.{◌≡◌, ℕ, zero, suc, ◌/◌, ◌%◌, ◌^◌, Bool, if◌then◌else◌, not, ◌==◌, bit_and, bit_or}
+use Rattle.std.specs.Prelude.{◌≡◌, ℕ, zero, suc, ◌/◌, ◌%◌, ◌^◌, ◌≤◌, Bool, ◌&&◌, if◌then◌else◌, not, ◌==◌, bit_and, bit_or}
 
 -- 1 where q is in the set, else 0
 abbrev pub bit : ℕ → ℕ → ℕ
@@ -12,6 +12,14 @@ Member q set = bit set q ≡ 1
 -- whether q is in the set
 abbrev pub has : ℕ → ℕ → Bool
 has set q = (bit set q) == 1
+
+-- q is the lowest member of the set
+abbrev pub Lowest : ℕ → ℕ → Type 0
+Lowest q set = Member q set × ((p : ℕ) → Member p set → q ≤ p)
+
+-- rest has the members of the set other than q
+abbrev pub Without : ℕ → ℕ → ℕ → Type 0
+Without q set rest = (p : ℕ) → has rest p ≡ (has set p && not (p == q))
 
 -- whether some number is in both sets
 abbrev pub meets : ℕ → ℕ → Bool

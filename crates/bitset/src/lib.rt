@@ -2,8 +2,8 @@
 // A rule of the project asks for plain words, with shifts and masks.
 #![tactic(auto)]
 
-ghost use Rattle.std.specs.Prelude.{◌≡◌, ℕ, ◌^◌, ◌<◌, ◌&&◌, ◌||◌, false, if◌then◌else◌, length, ◌↔◌, IsTrue, bit_or, min, nat_lt, slice_index_or};
-ghost use Rattle.bitset.specs.Sets.{Member, has, meets, within, those};
+ghost use Rattle.std.specs.Prelude.{◌≡◌, ℕ, ◌^◌, ◌<◌, ◌&&◌, ◌||◌, false, if◌then◌else◌, length, ◌↔◌, IsTrue, Some, None, MatchOption, bit_or, min, nat_lt, slice_index_or};
+ghost use Rattle.bitset.specs.Sets.{Member, Lowest, Without, has, meets, within, those};
 
 // Whether q is in the set; a number from 64 on is in none.
 pub fn contains(set: u64, q: u8) -> bool
@@ -17,6 +17,24 @@ pub fn insert(set: u64, q: u8) -> u64
     ensures { result ≡ (if nat_lt q 64 then bit_or set (2 ^ q) else set) }
 {
     if q < 64 { set | 1 << q } else { set }
+}
+
+// The members of the set below n.
+pub fn below(set: u64, n: u8) -> u64
+    ensures { (p : ℕ) → has result p ≡ (has set p && nat_lt p n) }
+{
+    if n < 64 { set & (1 << n) - 1 } else { set }
+}
+
+// The lowest member of the set and the set of the others, or none of the empty set.
+pub fn split_lowest(set: u64) -> Option<(u8, u64)>
+    ensures { MatchOption result (set ≡ 0) (λ s. Lowest s.0 set × Without s.0 set s.1) }
+{
+    if set == 0 {
+        None
+    } else {
+        Some((set.trailing_zeros() as u8, set & set - 1))
+    }
 }
 
 // The numbers in either set.
@@ -60,10 +78,8 @@ pub fn positions(flags: &[bool]) -> u64
     ensures { result ≡ those (λ q. slice_index_or flags.now q false) (min (length flags.now) 64) }
 {
     let mut set = 0;
-    for q in 0..flags.len().min(64) as u8 {
-        if flags[q as usize] {
-            set = insert(set, q);
-        }
+    for q in (0..flags.len().min(64)).rev() {
+        set = set << 1 | u64::from(flags[q]);
     }
     set
 }

@@ -1,9 +1,10 @@
 -- A mark that is taken follows the rules: its unit's row is rewritten, and no other.
-use Rattle.std.proofs.Common.{◌≡◌, ℕ, zero, suc, ◌+◌, ◌*◌, ◌<◌, ◌≤◌, Bool, true, false, cond, eqb, bit_or, ◌^◌, List, [], length, None, Ok, get_or, min, sym, refl, ap, ◌∙◌, ap₂, inl, inr, if◌then◌else◌, arith, length-drop, length-take, rules}
+use Rattle.std.proofs.Common.{◌≡◌, ℕ, ◌+◌, ◌*◌, ◌<◌, ◌≤◌, Bool, true, false, cond, eqb, List, [], length, None, Ok, get_or, min, sym, refl, ap, ◌∙◌, ap₂, inl, inr, if◌then◌else◌, arith, length-drop, length-take, rules}
 use Rattle.std.proofs.lemmas.Bool.{cases_eq, eq-eqb, ne_eqb}
 use Rattle.std.proofs.lemmas.Bool.Decides.{nat_tests}
 use Rattle.std.proofs.lemmas.List.{places}
 use Rattle.bitset.specs.Sets.{those}
+use Rattle.bitset.proofs.Places.{those_same}
 use Rattle.grid.specs.declared.Grid.{Grid}
 use Rattle.grid.specs.Grids.{has_row}
 use Rattle.grid.specs.Rows.{row}
@@ -16,12 +17,6 @@ use Rattle.causality.specs.Boards.{Memory, Shows, Follows, call, bare, bare_size
 use Rattle.causality.proofs.Calling.{Room, Ready, room_row, room_there, nothing_held}
 use Rattle.causality.proofs.Following.{taken_follows}
 use Rattle.causality.proofs.Showing.{same_from, same_all, holds_unit}
-
--- sets of numbers below n that are told by tests which agree below n
-those_same : (f g : ℕ → Bool) (n : ℕ) → ((j : ℕ) → j < n → f j ≡ g j) → those f n ≡ those g n
-those_same f g zero e = refl
-those_same f g (suc n) e =
-    ap₂ (λ (b : Bool) (x : ℕ). cond b (bit_or x (2 ^ n)) x) (e n (omega arith)) (those_same f g n (λ j h. e j (omega arith)))
 
 -- A mark in row u of clocks and flags, by a board that has asked its questions.
 module _ (n k u l : ℕ) (fits : ℕ → ℕ → Bool) (labelled : fits u l ≡ true) (clocks : Grid ℕ) (flags : Grid Bool) (ps : List Post) (r : Ready n k clocks flags ps u)

@@ -167,20 +167,19 @@ fn marks_join_the_flows_before_them(rt: HostRuntime) -> Result<(), Fail> {
     assert_eq!(rt; positions(&flags), 5);
     assert_eq!(rt; positions(&[false; 3]), 0);
     assert_eq!(rt; positions(&[true; 65]), u64::MAX);
-    assert_eq!(rt; mark_value(&count, &flags, &[2, 7, 1], 0), 3);
-    assert_eq!(rt; mark_value(&count, &[false; 3], &[2, 7, 1], 0), 1);
+    let set = positions(&flags);
+    assert_eq!(rt; mark_value(&count, set, &[2, 7, 1], 0), 3);
+    assert_eq!(rt; mark_value(&count, 0, &[2, 7, 1], 0), 1);
+    assert_eq!(rt; mark_value(&count, 1 << 63 | 1, &[2, 7, 1], 0), 3);
     assert_eq!(rt;
-        mark_value(&span, &flags, &[short, Ends::default(), long], 2),
+        mark_value(&span, set, &[short, Ends::default(), long], 2),
         Ends {
             shortest: 2,
             longest: 4,
         }
     );
-    assert_eq!(rt; mark_value(&pattern, &flags, &[0x02, 0x01, 0x04], 2), 0x18);
-    assert_eq!(rt;
-        mark_value(&pattern, &[false; 3], &[0x02, 0x01, 0x04], 1),
-        0x02
-    );
+    assert_eq!(rt; mark_value(&pattern, set, &[0x02, 0x01, 0x04], 2), 0x18);
+    assert_eq!(rt; mark_value(&pattern, 0, &[0x02, 0x01, 0x04], 1), 0x02);
     Ok(())
 }
 

@@ -6,12 +6,13 @@ pub mod Gathering
 pub mod Judging
 pub mod Lifting
 pub mod MarkedRows
+pub mod Members
 pub mod Merges
 pub mod Messages
 pub mod Playing
 mod Ranges
-mod Reaching
-mod Reading
+pub mod Reaching
+pub mod Reading
 pub mod Recognizing
 pub mod Replaying
 pub mod Totals

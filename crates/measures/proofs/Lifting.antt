@@ -101,7 +101,7 @@ module _ {V : Type 0} (m : Meaning V) (n k : ℕ) where
 
   -- a call that the lower board takes
   module _ (c : Call) (old new : Memory V) (a : Answer (Unit {0})) where
-    took : (f : Follows nothing z c true (bare_of old) (bare_of new) (Ok a)) (s : State V) → Shows m.start n k old s
+    pub took : (f : Follows nothing z c true (bare_of old) (bare_of new) (Ok a)) (s : State V) → Shows m.start n k old s
         → (refusal M z s c.unit c.act ≡ None) × (a ≡ answer_to nothing z c.unit c.act ((forget s).rows c.unit) ((acted nothing z (forget s) c.unit c.act).rows c.unit))
     took f s sh =
         let (o, e) = ok_taken _ _ a (f.answer (forget s) (shows_bare m.start n k old s sh)) in

@@ -1,11 +1,10 @@
 -- Marks under a measure: what a mark is worth by the memory, and the row that it leaves.
-use Rattle.std.proofs.Common.{◌≡◌, ℕ, zero, suc, ◌+◌, ◌*◌, ◌<◌, ◌≤◌, Bool, true, false, cond, eqb, List, [], length, Some, Ok, Option, unwrap_or, get_or, sym, refl, ap, ap₂, ◌∙◌, inl, inr, arith, length-drop, length-take, rules}
+use Rattle.std.proofs.Common.{◌≡◌, ℕ, zero, suc, ◌+◌, ◌*◌, ◌^◌, ◌<◌, Bool, true, cond, eqb, List, Some, Ok, Option, unwrap_or, get_or, sym, refl, subst, ap, ap₂, ◌∙◌, inl, inr, arith, rules}
 use Rattle.std.proofs.lemmas.Bool.{cases_eq, eq-eqb, ne_eqb}
-use Rattle.std.proofs.lemmas.Bool.Decides.{nat_tests}
 use Rattle.std.proofs.lemmas.List.{places}
-use Rattle.bitset.specs.Sets.{those}
+use Rattle.bitset.specs.Sets.{has, those}
+use Rattle.bitset.proofs.Places.{has_those, those_below}
 use Rattle.grid.specs.declared.Grid.{Grid}
-use Rattle.grid.specs.Grids.{has_row}
 use Rattle.grid.specs.Rows.{row}
 use Rattle.grid.proofs.Written.{RowIs, row_same}
 use Rattle.history.specs.declared.messages.Post.{Post}
@@ -13,12 +12,11 @@ use Rattle.history.specs.Events.{mark}
 use Rattle.history.specs.Rows.{Cell, nothing, mark_row}
 use Rattle.history.specs.Board.{State, Answer, marked, acted}
 use Rattle.causality.specs.Boards.{Memory, Holds, Shows, Follows, call, bare, fits_board, has_room, most_marks}
-use Rattle.causality.specs.Merging.{cell_at}
 use Rattle.causality.proofs.Showing.{same_from, holds_unit}
 use Rattle.measures.specs.Measures.{Meaning}
-use Rattle.measures.specs.Worths.{plus, gathered, worth, carrying, sized}
+use Rattle.measures.specs.Worths.{plus, gathered, members, worth, carrying, sized}
 use Rattle.measures.specs.Boards.{Obeys, lent, has_rooms}
-use Rattle.measures.proofs.Lifting.{bare_of, taken_obeys, taken_in, with_room, room_true, acted_like, mark_named}
+use Rattle.measures.proofs.Lifting.{bare_of, took, taken_obeys, taken_in, with_room, room_true, acted_like, mark_named}
 
 -- what is gathered depends on flags and values alone
 gathered_same : {V : Type 0} (m : Meaning V) (r t : ℕ → Cell V) (n : ℕ) → ((j : ℕ) → j < n → ((r j).flag ≡ (t j).flag) × ((r j).value ≡ (t j).value)) → gathered m r n ≡ gathered m t n
@@ -41,8 +39,7 @@ module _ {V : Type 0} (m : Meaning V) (n k u l : ℕ) (clocks : Grid ℕ) (flags
   new = record { clocks = cs; flags = fs; values = vs; posts = posts }
 
   module _ (f : Follows nothing (sized m n k most_marks) (call u (mark l)) (has_room n k clocks flags posts) (bare clocks flags posts) (bare_of new) (Ok (marked clock units tt)))
-      (inside : u * n + n ≤ length flags.cells.now)
-      (is : value ≡ worth m n (cell_at m.start [] (row flags.cells.now n u) (row values.cells.now n u)) u l)
+      (is : units < 2 ^ n → value ≡ worth m n (members units m.start (row values.cells.now n u)) u l)
       (first : V) (starts : first ≡ m.start) (w : RowIs n u m.start (λ j. cond (eqb j u) value first) values.cells.now vs) where
     there : has_room n k clocks flags posts ≡ true
     there = room_true m n k (call u (mark l)) (lent clocks flags values posts) new (marked clock units tt) _ f
@@ -56,11 +53,19 @@ module _ {V : Type 0} (m : Meaning V) (n k u l : ℕ) (clocks : Grid ℕ) (flags
         mark_named (carrying m n) (sized m n k most_marks) s u l e
 
     module _ (s : State V) (sh : Shows m.start n k (lent clocks flags values posts) s) where
-      worth_is : value ≡ worth m n (s.rows u) u l
-      worth_is = is ∙ worth_same m (cell_at m.start [] (row flags.cells.now n u) (row values.cells.now n u)) (s.rows u) n u l (λ j h. (flag_read j h ∙ sh.flags.rows u j unit h, value_read j h ∙ sh.values.rows u j unit h))
+      units_are : units ≡ those (λ j. (s.rows u j).flag) n
+      units_are = told (took m n k (call u (mark l)) (lent clocks flags values posts) new (marked clock units tt) follows s sh).1
         where
-          flag_read : (j : ℕ) → j < n → get_or (row flags.cells.now n u) j false ≡ get_or flags.cells.now (u * n + j) false
-          flag_read j h = search (rules, places)
+          told : {x y w z : ℕ} → (let a : Answer (Unit {0}) = marked x y tt in a) ≡ marked w z tt → y ≡ z
+          told e = cc
+
+      worth_is : value ≡ worth m n (s.rows u) u l
+      worth_is =
+          is (subst (λ (set : ℕ). set < 2 ^ n) (sym units_are) (those_below _ n))
+          ∙ worth_same m (members units m.start (row values.cells.now n u)) (s.rows u) n u l (λ j h. (flag_read j h, value_read j h ∙ sh.values.rows u j unit h))
+        where
+          flag_read : (j : ℕ) → j < n → has units j ≡ (s.rows u j).flag
+          flag_read j h = ap (λ (set : ℕ). has set j) units_are ∙ has_those (λ i. (s.rows u i).flag) n j h
 
           value_read : (j : ℕ) → j < n → get_or (row values.cells.now n u) j m.start ≡ get_or values.cells.now (u * n + j) m.start
           value_read j h = search (rules, places)
@@ -82,13 +87,3 @@ module _ {V : Type 0} (m : Meaning V) (n k u l : ℕ) (clocks : Grid ℕ) (flags
         (λ s sh o. held s sh)
         (λ s sh o e. marked_moved clock units _ _ value _ (e ∙ ap (λ (x : ℕ). marked x (those (λ j. (s.rows u j).flag) n) tt) (sym ((acted_like m n k s (call u (mark l)) o).clocks u u))) (own_value s sh))
         follows)
-
--- what `mark_value` makes of the row of flags and of values
-pub worth_row : {V : Type 0} (m : Meaning V) (flags : Grid Bool) (t : ℕ) (fs : List Bool) (vs ws : List V) (l : ℕ) (value : V) → has_row flags t ≡ true
-    → fs ≡ row flags.cells.now flags.width t → vs ≡ ws → ((u : ℕ) → value ≡ worth m (length fs) (cell_at m.start [] fs vs) u l)
-    → (u : ℕ) → value ≡ worth m flags.width (cell_at m.start [] (row flags.cells.now flags.width t) ws) u l
-worth_row m flags t fs vs ws l value there ef ev is u =
-    let fits : t * flags.width + flags.width ≤ length flags.cells.now = grind (arith, nat_tests) in
-    let long : length (row flags.cells.now flags.width t) ≡ flags.width = simp (length-take, length-drop) (omega arith) in
-    is u
-    ∙ rw (ef, ev) (ap (λ (i : ℕ). worth m i (cell_at m.start [] (row flags.cells.now flags.width t) ws) u l) long)

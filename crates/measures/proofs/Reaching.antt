@@ -21,7 +21,7 @@ module _ (b : List ℕ) (states labels start finals : ℕ) (table : List ℕ) (p
   there w ls = subst (λ (n : ℕ). Labels n w) parts.labels_are ls
 
   -- whether a set holds q goes through unions, and of one word says whether it leads to q
-  holds_judges : (q : ℕ) → Judges ◌||◌ (state_sets states labels start table) (λ set. (0 < set) × (set < 2 ^ states)) (λ set. has set q) (λ w. state_after b w ≡ q)
+  pub holds_judges : (q : ℕ) → Judges ◌||◌ (state_sets states labels start table) (λ set. (0 < set) × (set < 2 ^ states)) (λ set. has set q) (λ w. state_after b w ≡ q)
   holds_judges q = record {
     joins = λ x y _ _. has_or x y q;
     decides = λ l w ls.
@@ -30,7 +30,7 @@ module _ (b : List ℕ) (states labels start finals : ℕ) (table : List ℕ) (p
   }
 
   -- an answer that says of one word whether it is accepted
-  accepted_decides : (answer : ℕ → Bool) → ((w : Word) → Labels (labels_in b) w → answer (carried (state_sets states labels start table) w) ≡ accepts b w)
+  pub accepted_decides : (answer : ℕ → Bool) → ((w : Word) → Labels (labels_in b) w → answer (carried (state_sets states labels start table) w) ≡ accepts b w)
       → (l : Letter) (w : Word) → Spelled (state_sets states labels start table) (l ∷ w) → IsTrue (answer (carried (state_sets states labels start table) (l ∷ w))) ↔ IsTrue (accepts b (l ∷ w))
   accepted_decides answer is l w ls = let e = is (l ∷ w) (there (l ∷ w) ls) in ((λ t. sym e ∙ t), (λ t. e ∙ t))
 

@@ -1,12 +1,11 @@
 // A board under a measure: it follows a recording, and tells of each mark what the longest flows that end there are worth.
 // As on the board without measures, the grids refuse nothing once the questions are asked, and what they answer is dropped.
-ghost use Rattle.std.specs.Prelude.{◌≡◌, ℕ, true, [], Some, None, IfOk, MatchResult};
+ghost use Rattle.std.specs.Prelude.{◌≡◌, ℕ, ◌^◌, ◌<◌, true, Some, None, IfOk, MatchResult};
 ghost use Rattle.grid.specs.Grids.{has_row, SameMemory};
 ghost use Rattle.grid.specs.Rows.{row as row_of};
 ghost use Rattle.history.specs.Events.{send, receive, mark};
 ghost use Rattle.causality.specs.Boards.{Makes, call, make_refusal, state_answer, left_answer, clock_told, mark_told};
-ghost use Rattle.causality.specs.Merging.{cell_at};
-ghost use Rattle.measures.specs.Worths.{carrying, worth};
+ghost use Rattle.measures.specs.Worths.{carrying, members, worth};
 ghost use Rattle.measures.specs.Boards.{Obeys, lent, has_rooms, judged_told, MarksGood};
 
 use super::Measure;
@@ -131,8 +130,8 @@ impl<M: Measure> MeasuredBoard<M> {
         if label >= self.measure.labels() {
             return Err(Refusal::NoSuchLabel);
         }
-        let value = self.worth_in(flags, values, unit, label);
         let bare = self.board.mark(clocks, flags, posts, unit)?;
+        let value = self.worth_in(values, bare.predecessors, unit, label);
         values.fill_row(unit, self.measure.start()).ok();
         values.set_cell(unit, unit, value).ok();
         Ok(Marked {
@@ -142,21 +141,20 @@ impl<M: Measure> MeasuredBoard<M> {
         })
     }
 
-    // What a mark with a label is worth by the flags and values of its unit's row, which is there.
+    // What a mark with a label is worth by the set of its predecessors' units and the values of its unit's row, which is there.
     fn worth_in(
         &self,
-        flags: &Grid<'_, bool>,
         values: &Grid<'_, M::Value>,
+        predecessors: u64,
         row: usize,
         label: u8,
     ) -> M::Value
-        requires flags { has_row flags.now row ≡ true }
-        requires values { has_row values.now row ≡ true }
-        ensures { (u : ℕ) → result ≡ worth (M.meaning self.now.measure) flags.now.width (cell_at (M.meaning self.now.measure).start [] (row_of flags.now.cells.now flags.now.width row) (row_of values.now.cells.now values.now.width row)) u label }
+        requires { has_row values.now row ≡ true }
+        ensures { (n u : ℕ) → predecessors < 2 ^ n → result ≡ worth (M.meaning self.now.measure) n (members predecessors (M.meaning self.now.measure).start (row_of values.now.cells.now values.now.width row)) u label }
     {
-        match (flags.row(row), values.row(row)) {
-            (Ok(flags), Ok(values)) => mark_value(&self.measure, flags, values, label),
-            _ => self.measure.start(),
+        match values.row(row) {
+            Ok(values) => mark_value(&self.measure, predecessors, values, label),
+            Err(_) => self.measure.start(),
         }
     }
 

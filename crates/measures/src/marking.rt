@@ -1,9 +1,9 @@
 // What a mark is worth: the values of the flows that go on through it.
-ghost use Rattle.std.specs.Prelude.{◌≡◌, ℕ, [], length, Some};
-ghost use Rattle.causality.specs.Merging.{cell_at};
-ghost use Rattle.measures.specs.Worths.{plus, gathered, worth};
+ghost use Rattle.std.specs.Prelude.{◌≡◌, ℕ, ◌^◌, ◌<◌, Some};
+ghost use Rattle.measures.specs.Worths.{plus, gathered, members, worth};
 
 use super::Measure;
+use bitset::split_lowest;
 use grid::at_or;
 
 // One value more, joined to those before it.
@@ -16,24 +16,25 @@ fn joined_to<M: Measure>(m: &M, before: Option<M::Value>, v: M::Value) -> M::Val
     }
 }
 
-// The values whose flag is yes, joined in rising order, or none where no flag is. A value that is not there counts as the start.
-fn gather<M: Measure>(m: &M, flags: &[bool], values: &[M::Value]) -> Option<M::Value>
-    ensures { result ≡ gathered (M.meaning m.now) (cell_at (M.meaning m.now).start [] flags.now values.now) (length flags.now) }
+// The values of the members of a set, joined in rising order, or none of the empty set. A value that is not there counts as the start.
+fn gather<M: Measure>(m: &M, set: u64, values: &[M::Value]) -> Option<M::Value>
+    ensures { (n : ℕ) → set < 2 ^ n → result ≡ gathered (M.meaning m.now) (members set (M.meaning m.now).start values.now) n }
 {
+    let mut rest = set;
     let mut all = None;
-    for (j, flag) in flags.iter().enumerate() {
-        if *flag {
-            all = Some(joined_to(m, all, at_or(values, j, m.start())));
-        }
+    while let Some((j, others)) = split_lowest(rest) {
+        all = Some(joined_to(m, all, at_or(values, j as usize, m.start())));
+        rest = others;
     }
     all
 }
 
-// What a mark with label l is worth, by the flags and values of its unit's row before it: the values whose flag is yes, joined in rising
-// order, or the start if there are none, and then stepped by the label. Which unit makes the mark does not matter.
-pub fn mark_value<M: Measure>(m: &M, flags: &[bool], values: &[M::Value], l: u8) -> M::Value
-    ensures { (u : ℕ) → result ≡ worth (M.meaning m.now) (length flags.now) (cell_at (M.meaning m.now).start [] flags.now values.now) u l }
+// What a mark with label l is worth, by the set of the units that have an immediate predecessor of it and the values of its unit's row
+// before it: the values of the set's members, joined in rising order, or the start if there are none, and then stepped by the label. It is
+// the same on every board that has these units, as one of 64 always has, and which unit makes the mark does not matter.
+pub fn mark_value<M: Measure>(m: &M, predecessors: u64, values: &[M::Value], l: u8) -> M::Value
+    ensures { (n u : ℕ) → predecessors < 2 ^ n → result ≡ worth (M.meaning m.now) n (members predecessors (M.meaning m.now).start values.now) u l }
 {
-    let gathered = gather(m, flags, values).unwrap_or(m.start());
+    let gathered = gather(m, predecessors, values).unwrap_or(m.start());
     m.step(gathered, l)
 }

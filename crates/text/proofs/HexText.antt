@@ -128,14 +128,15 @@ same_at (suc n) d same h =
 table_digit : (d : ℕ) → d < 16 → slice_index lower_digits d ≡ digit_in_hex d
 table_digit d h = same_at 16 d refl h
 
--- Each byte is two digits.
+-- A byte is two digits.
 pow_pairs : (k : ℕ) → 256 ^ k ≡ 16 ^ (k * 2)
 pow_pairs zero = refl
 pow_pairs (suc k) =
     let two : suc k * 2 ≡ suc (suc (k * 2)) = omega arith in
     rw two (omega (arith, pow-succ' 256 k, pow_pairs k, pow-succ' 16 (suc (k * 2)), pow-succ' 16 (k * 2)))
 
-byte_is : (k v : ℕ) → byte_at k v ≡ v / 16 ^ (k * 2) % 256
+-- A byte of a word is two of its digits.
+pub byte_is : (k v : ℕ) → byte_at k v ≡ v / 16 ^ (k * 2) % 256
 byte_is zero v = omega arith
 byte_is (suc k) v = ap (λ p. v / p % 256) (pow_pairs (suc k))
 

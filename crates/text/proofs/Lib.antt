@@ -1,1 +1,1 @@
-mod HexText
+pub mod HexText

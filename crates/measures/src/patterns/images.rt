@@ -3,7 +3,7 @@ ghost use Rattle.std.specs.Prelude.{◌≡◌, ◌<◌};
 ghost use Rattle.measures.specs.Automata.{next, image, Image};
 
 use super::Pattern;
-use bitset::{contains, insert};
+use bitset::{below, split_lowest};
 
 impl Pattern {
     // The next state of q under the label l.
@@ -17,7 +17,6 @@ impl Pattern {
     }
 
     // The states to which the table takes the members of the set that are states, under the label l.
-    // It goes over the numbers of the states, since a set has its members as bits of a word: a rule of the project.
     #[tactic(auto, using(crate::specs::Images::image_is))]
     pub(super) fn image(&self, set: u64, l: u8) -> u64
         requires { l < self.now.head.labels.number }
@@ -25,10 +24,10 @@ impl Pattern {
         ensures members { Image (next self.now.head.labels.number self.now.table l) self.now.head.states.number set result }
     {
         let mut out = 0;
-        for q in 0..self.head.states.number {
-            if contains(set, q) {
-                out = insert(out, self.next(q, l));
-            }
+        let mut rest = below(set, self.head.states.number);
+        while let Some((q, others)) = split_lowest(rest) {
+            out |= 1 << self.next(q, l);
+            rest = others;
         }
         out
     }

@@ -1,10 +1,9 @@
-use Rattle.std.proofs.Common.{ℕ, ◌≡◌, true, Err, [], refl, ap₂, ◌∙◌, arith, rules}
+use Rattle.std.proofs.Common.{ℕ, ◌≡◌, ◌^◌, ◌<◌, true, Err, refl, ap, ◌∙◌, arith, rules}
 use Rattle.history.specs.Events.{mark}
 use Rattle.causality.specs.Boards.{call, fits_board}
 use Rattle.grid.specs.Rows.{row}
-use Rattle.causality.specs.Merging.{cell_at}
-use Rattle.measures.specs.Worths.{worth}
-use Rattle.causality.proofs.Calling.{room_of, room_row, unit_taken}
+use Rattle.measures.specs.Worths.{members, worth}
+use Rattle.causality.proofs.Calling.{room_of, unit_taken}
 use Rattle.causality.proofs.Writing.{reset}
 use Rattle.measures.specs.Measures.{fits}
 use Rattle.measures.specs.Boards.{lent}
@@ -56,10 +55,9 @@ returns-clause-follows g c =
     let r = unit_taken n k a.clocks.now a.flags.now a.posts.now a.unit c.in_ok-ask_unit.ensures in
     let rv = room_of n k a.values.now room in
     let bare = c.in_ok-bare.ensures.follows (fits m) a.label (search rules) in
-    let worths : (u : ℕ) → c.worth_in-value.result ≡ worth m a.flags.now.width (cell_at m.start [] (row a.flags.now.cells.now a.flags.now.width a.unit) (row a.values.now.cells.now a.values.now.width a.unit)) u a.label =
+    let worths : (w v : ℕ) → c.in_ok-bare.bare.predecessors < 2 ^ w → c.worth_in-value.result ≡ worth m w (members c.in_ok-bare.bare.predecessors m.start (row a.values.now.cells.now a.values.now.width a.unit)) v a.label =
     assumption c.worth_in-value.ensures in
     mark_obeys m n k a.unit a.label a.clocks.now a.flags.now a.values.now a.posts.now room _ _ _ _ _ c.worth_in-value.result (assumption bare)
-    (room_row r.of_flags a.unit (omega (arith, r.unit)))
-    (worths a.unit ∙ ap₂ (λ w v. worth m w (cell_at m.start [] (row a.flags.now.cells.now w a.unit) (row a.values.now.cells.now v a.unit)) a.unit a.label) r.of_flags.width rv.width)
+    (λ small. worths n a.unit small ∙ ap (λ (v : ℕ). worth m n (members c.in_ok-bare.bare.predecessors m.start (row a.values.now.cells.now v a.unit)) a.unit a.label) rv.width)
     c.start.result c.start.ensures
     (reset rv c.fill_row.ensures.memory m.start c.start.result _ _ c.fill_row.result c.set_cell.result a.unit a.unit (omega (arith, r.unit)) r.unit (assumption c.fill_row.ensures) (assumption c.fill_row.ensures) (assumption c.set_cell.ensures) (assumption c.set_cell.ensures))
