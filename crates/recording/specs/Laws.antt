@@ -1,0 +1,99 @@
+-- What is true of every report.
+use Rattle.std.specs.Prelude.{◌≡◌, ℕ, suc, ◌+◌, if◌then◌else◌, List, [], ◌∷◌, ◌++◌, length, drop, take, Some, None, Ok, Err, ◌↔◌, IsTrue, ◌==◌}
+use Rattle.std.specs.List.{slice_get}
+use Rattle.bitset.specs.Sets.{Member}
+use Rattle.history.specs.declared.refusals.Refusal.{Refusal}
+use Rattle.history.specs.Counting.{HowMany}
+use Rattle.history.specs.Events.{Events, mark, at, Sent, Received}
+use Rattle.history.specs.Flows.{Place, Longest, word}
+use Rattle.history.specs.HappenedBefore.{Immediate}
+use Rattle.history.specs.Marks.{tick, marks}
+use Rattle.history.specs.Runs.{Size, Call, Possible, Run, by_unit, SameByUnit}
+use Rattle.causality.specs.Boards.{call, most_marks}
+use Rattle.measures.specs.Acceptance.{state_after as state_by, accepts}
+use Rattle.measures.specs.Formats.{states_in, labels_in, start_in, finals_in, table_in, count_in, entries_in, padded}
+use Rattle.measures.specs.Laws.{Judged}
+use Rattle.measures.specs.Relabellings.{translated}
+use Rattle.measures.specs.Words.{Word}
+use Rattle.measures.specs.Worths.{sized}
+use Rattle.recording.specs.declared.faults.Reason.TheVariants.{Refused}
+use Rattle.recording.specs.declared.faults.RecordingFault.{RecordingFault}
+use Rattle.recording.specs.declared.lines.MarkLine.{MarkLine}
+use Rattle.recording.specs.Commands.{calls_in}
+use Rattle.recording.specs.Faults.{broken}
+use Rattle.recording.specs.Reports.{relabelling_at, recording_at, front_fault, judge_in, told_in}
+
+-- the size of the board that a recording makes
+abbrev pub size_in : List ℕ → Size
+size_in b = sized (judge_in b) (told_in b).units (told_in b).messages most_marks
+
+-- what happened in the calls that were read
+abbrev pub events_in : List Call → Events
+events_in cs = at (by_unit cs)
+
+-- a word of the recording's labels in the pattern's
+abbrev pub in_pattern : List ℕ → Word → Word
+in_pattern b w = translated (padded 64 (entries_in b (relabelling_at b))) (labels_in b) w
+
+-- how many of the calls are marks
+abbrev pub marks_among : List Call → ℕ
+marks_among [] = 0
+marks_among (c ∷ cs) = tick (Some c.act) + marks_among cs
+
+-- What a line tells of the mark at place i of unit u: its unit; its own number among its unit's marks, from 1; the units of its immediate
+-- predecessors; exactly the states to which the words of the longest flows that end there lead the pattern in the bytes b, once relabelled; and
+-- whether some, and whether each, of these words is accepted.
+pub record Tells (b : List ℕ) (ev : Events) (u i : ℕ) (line : MarkLine) : Type 0 where
+  pub unit_is : line.unit ≡ u
+  pub clock_is : line.clock ≡ marks ev u (suc i)
+  pub predecessors_are : (v : ℕ) → Member v line.predecessors ↔ ((j : ℕ) × Immediate ev v j u i)
+  pub states_are : (q : ℕ) → Member q line.states ↔ ((f : List Place) × Longest ev u i f × (state_by b (in_pattern b (word ev f)) ≡ q))
+  pub verdict : Judged (λ w. IsTrue (accepts b (in_pattern b w))) line.some line.all ev u i
+
+-- Two inputs have the same pattern and the same relabelling.
+pub record SameFront (b d : List ℕ) : Type 0 where
+  pub states : states_in b ≡ states_in d
+  pub labels : labels_in b ≡ labels_in d
+  pub start : start_in b ≡ start_in d
+  pub finals : finals_in b ≡ finals_in d
+  pub table : table_in b ≡ table_in d
+  pub count : count_in b (relabelling_at b) ≡ count_in d (relabelling_at d)
+  pub entries : entries_in b (relabelling_at b) ≡ entries_in d (relabelling_at d)
+
+-- the lines of unit u
+abbrev pub lines_of : ℕ → List MarkLine → List MarkLine
+lines_of u [] = []
+lines_of u (l ∷ ls) = if u == l.unit then l ∷ lines_of u ls else lines_of u ls
+
+-- What is true of a report on an input whose pattern and relabelling are accepted.
+pub record ReportTrue (b : List ℕ) : Type 0 where
+  -- the calls read, up to the end or to where the recording breaks off, are what a real run could do
+  pub run : Run (size_in b) (told_in b).calls
+  -- and a call that the board refuses, there, is none that could come next
+  pub refused : (e : Refusal) (place : ℕ) → (told_in b).end ≡ Err (broken (Refused e) place) → (c : Call) (cs : List Call) → calls_in (drop place b) ≡ c ∷ cs
+      → Possible (size_in b) (by_unit (told_in b).calls) c.unit c.act → ⊥
+  -- where it ends well, they are all calls after the command that makes the board
+  pub all_read : (left : ℕ) → (told_in b).end ≡ Ok left → (told_in b).calls ≡ calls_in (drop 3 (drop (recording_at b) b))
+  -- there is a line for each mark read, and no other, in the order of the recording
+  pub lines_counted : length (told_in b).lines ≡ marks_among (told_in b).calls
+  -- and it tells of the longest flows of the calls read up to that mark
+  pub each_line : (before after : List Call) (u l : ℕ) → (told_in b).calls ≡ before ++ call u (mark l) ∷ after
+      → (line : MarkLine) × (slice_get (told_in b).lines (marks_among before) ≡ Some line) × Tells b (events_in (before ++ call u (mark l) ∷ [])) u (length (by_unit before u)) line
+  -- at the end, the messages that were sent and not received are counted
+  pub left_counted : (left : ℕ) → (told_in b).end ≡ Ok left
+      → HowMany (λ p. Sent (events_in (told_in b).calls) p × (Received (events_in (told_in b).calls) p → ⊥)) left
+  -- where the recording breaks off, its lines are exactly those of its part before the break
+  pub part : (f : RecordingFault) → (told_in b).end ≡ Err f
+      → (front_fault (take f.place b) ≡ None) × SameFront b (take f.place b) × ((told_in (take f.place b)).calls ≡ (told_in b).calls) × ((told_in (take f.place b)).lines ≡ (told_in b).lines)
+
+-- What two reports have in common whose recordings have the same accepted calls unit by unit, whatever the numbers of units and of messages of
+-- their boards: each unit's lines, in their order; and the last line, if both end well.
+pub record ReportsAgree (b d : List ℕ) : Type 0 where
+  pub lines : (u : ℕ) → lines_of u (told_in b).lines ≡ lines_of u (told_in d).lines
+  pub left : (x y : ℕ) → (told_in b).end ≡ Ok x → (told_in d).end ≡ Ok y → x ≡ y
+
+-- The law of reports, for every input.
+pub record LawOfReports : Type 0 where
+  pub true_of_each : (b : List ℕ) → front_fault b ≡ None → ReportTrue b
+  pub agree : (b d : List ℕ) → front_fault b ≡ None → front_fault d ≡ None → SameFront b d
+      → SameByUnit (told_in b).calls (told_in d).calls → ReportsAgree b d
