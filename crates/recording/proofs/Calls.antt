@@ -1,5 +1,5 @@
 -- The calls at the front of some bytes, of three bytes each, and what a board tells of them, call by call.
-use Rattle.std.proofs.Common.{◌≡◌, ℕ, suc, ◌+◌, ◌*◌, Bool, List, [], ◌∷◌, ◌++◌, length, drop, Some, None, Ok, Err, Option, Result, refl, ap, ◌∙◌, arith}
+use Rattle.std.proofs.Common.{◌≡◌, ℕ, zero, suc, ◌+◌, ◌*◌, ◌<◌, Bool, List, [], ◌∷◌, ◌++◌, length, drop, take, Some, None, Ok, Err, Option, Result, refl, ap, ◌∙◌, arith}
 use Rattle.history.specs.declared.refusals.Refusal.{Refusal}
 use Rattle.history.specs.Board.{State, Answer, next, outcome, outcomes_from}
 use Rattle.history.specs.Events.{Event}
@@ -32,6 +32,31 @@ calls_after (b ∷ []) (c ∷ before) after h = absurd (cc)
 calls_after (b ∷ (u ∷ [])) (c ∷ before) after h = absurd (cc)
 calls_after (b ∷ (u ∷ (x ∷ rest))) (c ∷ before) after h =
     ap calls_in (past_call (length before) b u x rest) ∙ calls_after rest before after (begun_rest u (event_in b x) (calls_in rest) c (before ++ after) h)
+
+-- Fewer than three bytes have no call.
+few_bytes : (i : ℕ) → i < 3 → (bytes : List ℕ) → calls_in (take i bytes) ≡ []
+few_bytes zero small bytes = refl
+few_bytes (suc i) small [] = refl
+few_bytes (suc zero) small (b ∷ rest) = refl
+few_bytes (suc (suc i)) small (b ∷ []) = refl
+few_bytes (suc (suc zero)) small (b ∷ (u ∷ rest)) = refl
+few_bytes (suc (suc (suc i))) small (b ∷ (u ∷ rest)) = absurd (omega arith)
+
+-- Up to the first of the calls, three bytes for each, and fewer than three bytes more, stand just these.
+pub calls_before : (i : ℕ) → i < 3 → (bytes : List ℕ) (before after : List Call) → calls_in bytes ≡ before ++ after → calls_in (take (3 * length before + i) bytes) ≡ before
+calls_before i small bytes [] after h = ap (λ (n : ℕ). calls_in (take n bytes)) (omega arith) ∙ few_bytes i small bytes
+calls_before i small [] (c ∷ before) after h = absurd (cc)
+calls_before i small (b ∷ []) (c ∷ before) after h = absurd (cc)
+calls_before i small (b ∷ (u ∷ [])) (c ∷ before) after h = absurd (cc)
+calls_before i small (b ∷ (u ∷ (x ∷ rest))) (c ∷ before) after h =
+    let three : 3 * suc (length before) + i ≡ suc (suc (suc (3 * length before + i))) = omega arith in
+    ap (λ (n : ℕ). calls_in (take n (b ∷ (u ∷ (x ∷ rest))))) three
+    ∙ one (event_in b x) h (calls_before i small rest before after (begun_rest u (event_in b x) (calls_in rest) c (before ++ after) h))
+  where
+    one : (o : Option Event) → begun u o (calls_in rest) ≡ c ∷ (before ++ after) → calls_in (take (3 * length before + i) rest) ≡ before
+        → begun u o (calls_in (take (3 * length before + i) rest)) ≡ c ∷ before
+    one None e ih = absurd (cc)
+    one (Some x) e ih = cc
 
 -- what tells of no call
 abbrev pub silent : ℕ → ℕ → Result ℕ RecordingFault → Told

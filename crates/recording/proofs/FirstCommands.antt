@@ -1,24 +1,30 @@
 -- The first command of some bytes, and what it says of them.
 use Rattle.std.proofs.Common.{◌≡◌, ℕ, List, [], ◌∷◌, Ok, Err, Result, sym, refl, subst, inl, inr}
 use Rattle.std.proofs.lemmas.Bool.{cases_eq, ne_eqb}
-use Rattle.history.specs.declared.refusals.Refusal.{Refusal}
 use Rattle.history.specs.Runs as rules
 use Rattle.measures.specs.declared.replays.Call as handing
 use Rattle.measures.specs.Replays.{handed}
 use Rattle.recording.specs.declared.commands.Command.{Command}
 use Rattle.recording.specs.declared.commands.Command.TheVariants.{Make, Call, End}
 use Rattle.recording.specs.declared.faults.Reason.{Reason}
-use Rattle.recording.specs.declared.faults.Reason.TheVariants.{NoCommand, Refused}
+use Rattle.recording.specs.declared.faults.Reason.TheVariants.{NoByte, NoCommand, NoOperands}
 use Rattle.recording.specs.Commands.{first_command, calls_in}
 
+-- whether bytes can be no whole command for this reason
+abbrev pub OfForm : Reason → Type 0
+OfForm NoByte = Unit {0}
+OfForm NoCommand = Unit {0}
+OfForm NoOperands = Unit {0}
+OfForm other = ⊥
+
 -- What it says that this is the first command, and these the bytes after it, or that there is none for this reason: a call is the first of the
--- calls, and has three bytes; else there are no calls. A making has three bytes too, whatever follows; and no reason is a board's refusal.
+-- calls, and has three bytes; else there are no calls. A making has three bytes too, whatever follows; and each reason is one of form.
 abbrev pub Begins : List ℕ → Result (Command × List ℕ) Reason → Type 0
 Begins bytes (Ok (Call c, rest)) = (b x : ℕ) × (bytes ≡ b ∷ (c.unit ∷ (x ∷ rest))) × (calls_in bytes ≡ handed c ∷ calls_in rest)
 Begins bytes (Ok (Make n k, rest)) =
     (calls_in bytes ≡ []) × (b : ℕ) × (bytes ≡ b ∷ (n ∷ (k ∷ rest))) × ((zs : List ℕ) → first_command (b ∷ (n ∷ (k ∷ zs))) ≡ Ok (Make n k, zs))
 Begins bytes (Ok (End, rest)) = calls_in bytes ≡ []
-Begins bytes (Err reason) = (calls_in bytes ≡ []) × ((e : Refusal) → reason ≡ Refused e → ⊥)
+Begins bytes (Err reason) = (calls_in bytes ≡ []) × OfForm reason
 
 -- bytes that begin so with their first command
 abbrev Begun : List ℕ → Type 0
@@ -26,23 +32,23 @@ Begun bytes = Begins bytes (first_command bytes)
 
 -- a making, and the three kinds of calls
 made : (rest : List ℕ) → Begun (0x10 ∷ rest)
-made [] = (refl, λ e h. (cc))
-made (n ∷ []) = (refl, λ e h. (cc))
+made [] = (refl, tt)
+made (n ∷ []) = (refl, tt)
 made (n ∷ (k ∷ rest)) = (refl, 0x10, refl, λ zs. refl)
 
 sent : (rest : List ℕ) → Begun (0x01 ∷ rest)
-sent [] = (refl, λ e h. (cc))
-sent (u ∷ []) = (refl, λ e h. (cc))
+sent [] = (refl, tt)
+sent (u ∷ []) = (refl, tt)
 sent (u ∷ (m ∷ rest)) = (0x01, m, refl, refl)
 
 received : (rest : List ℕ) → Begun (0x02 ∷ rest)
-received [] = (refl, λ e h. (cc))
-received (u ∷ []) = (refl, λ e h. (cc))
+received [] = (refl, tt)
+received (u ∷ []) = (refl, tt)
 received (u ∷ (m ∷ rest)) = (0x02, m, refl, refl)
 
 marked : (rest : List ℕ) → Begun (0x03 ∷ rest)
-marked [] = (refl, λ e h. (cc))
-marked (u ∷ []) = (refl, λ e h. (cc))
+marked [] = (refl, tt)
+marked (u ∷ []) = (refl, tt)
 marked (u ∷ (l ∷ rest)) = (0x03, l, refl, refl)
 
 -- the end
@@ -62,7 +68,7 @@ module _ (b : ℕ) (no_make : b ≡ 0x10 → ⊥) (no_send : b ≡ 0x01 → ⊥)
   no_calls (u ∷ (x ∷ rest)) = rw (ne_eqb b 0x01 no_send, ne_eqb b 0x02 no_receipt, ne_eqb b 0x03 no_mark) refl
 
   unknown : (rest : List ℕ) → Begun (b ∷ rest)
-  unknown rest = subst (Begins (b ∷ rest)) (sym (no_command rest)) (no_calls rest, λ e h. (cc))
+  unknown rest = subst (Begins (b ∷ rest)) (sym (no_command rest)) (no_calls rest, tt)
 
 by_byte : (b : ℕ) (rest : List ℕ) → Begun (b ∷ rest)
 by_byte b rest =
@@ -80,7 +86,7 @@ pub begins : (bytes : List ℕ) (r : Result (Command × List ℕ) Reason) → fi
 begins bytes r is = subst (Begins bytes) is (all bytes)
   where
     all : (bytes : List ℕ) → Begun bytes
-    all [] = (refl, λ e h. (cc))
+    all [] = (refl, tt)
     all (b ∷ rest) = by_byte b rest
 
 -- Where some bytes begin with a call, their first command is one.

@@ -1,6 +1,7 @@
 -- How many messages are left on their way where a recording ends well.
 use Rattle.std.proofs.Common.{◌≡◌, ◌↔◌, ℕ, zero, suc, ◌+◌, ◌*◌, ◌<◌, Bool, true, false, if◌then◌else◌, ◌==◌, List, [], ◌∷◌, length, drop, Some, Ok, Err, Result, sym, refl, ap, ◌∙◌, subst, inl, inr, ⊎_elim, arith}
 use Rattle.std.specs.List.{slice_get}
+use Rattle.std.proofs.lemmas.List.{drop-drop}
 use Rattle.std.proofs.Math.Path.{fun_ext}
 use Rattle.history.specs.declared.messages.Post.{Post}
 use Rattle.history.specs.declared.refusals.Refusal.{Refusal}
@@ -22,7 +23,7 @@ use Rattle.recording.specs.declared.faults.RecordingFault.{RecordingFault}
 use Rattle.recording.specs.Commands.{first_command, calls_in}
 use Rattle.recording.specs.Recordings.{Told, closed, ending, before_refusal, state_after, told_on, told}
 use Rattle.recording.specs.Reports.{recording_at, judge_in, some_in, all_in, told_in}
-use Rattle.recording.specs.Laws.{events_in}
+use Rattle.recording.specs.Laws.{AfterCalls, events_in}
 use Rattle.recording.proofs.FirstCommands.{begins}
 use Rattle.recording.proofs.Reading.{reads, reads_ok, last_run, told_cases}
 
@@ -107,6 +108,14 @@ closed_ok left place (Ok (commands.End, y ∷ rest)) x e = cc
 closed_ok left place (Ok (commands.Make n k, rest)) x e = cc
 closed_ok left place (Ok (commands.Call c, rest)) x e = cc
 
+-- And it is an end, with nothing after it.
+closed_end : (left place : ℕ) (r : Result (Command × List ℕ) Reason) (x : ℕ) → closed left place r ≡ Ok x → r ≡ Ok (commands.End, [])
+closed_end left place (Err reason) x e = cc
+closed_end left place (Ok (commands.End, [])) x e = refl
+closed_end left place (Ok (commands.End, y ∷ rest)) x e = cc
+closed_end left place (Ok (commands.Make n k, rest)) x e = cc
+closed_end left place (Ok (commands.Call c, rest)) x e = cc
+
 module _ (m : Meaning ℕ) (some all : ℕ → Bool) where
   -- Where a recording on a board ends well, it leaves the messages on their way after the calls read.
   left_on : (n k place : ℕ) (bytes : List ℕ) (x : ℕ) → (told_on m some all n k (new_state (carrying m n)) place bytes).end ≡ Ok x
@@ -153,3 +162,20 @@ left_counted b = told_leaves (judge_in b) (some_in b) (all_in b) (recording_at b
 -- Where a recording ends well, all calls after its making are read.
 pub all_read : (b : List ℕ) (left : ℕ) → (told_in b).end ≡ Ok left → (told_in b).calls ≡ calls_in (drop 3 (drop (recording_at b) b))
 all_read b = told_whole (judge_in b) (some_in b) (all_in b) (recording_at b) (drop (recording_at b) b)
+
+-- And after them stands an end, and nothing more.
+pub ended : (b : List ℕ) (left : ℕ) → (told_in b).end ≡ Ok left → (p : ℕ) × AfterCalls b p × (first_command (drop p b) ≡ Ok (commands.End, []))
+ended b left ends = elim (told_cases (judge_in b) (some_in b) (all_in b) (recording_at b) (drop (recording_at b) b)) [
+  | inl (reason, t) ↦ let end = ap (λ (t : Told). t.end) t in absurd (cc)
+  | inr (n, k, rest, first, made, t) ↦
+      let (none, x, same, whatever) = begins (drop (recording_at b) b) _ first in
+      let cs = calls_in rest in
+      let (p, q) = ending_ok (carrying (judge_in b) n) (sized (judge_in b) n k most_marks) cs (new_state (carrying (judge_in b) n)) (recording_at b + 3) left _ (sym (ap (λ (t : Told). t.end) t) ∙ ends) in
+      let there : drop (recording_at b + 3 + 3 * length cs) b ≡ drop (3 * length cs) rest =
+      sym (ap (drop (3 * length cs)) (sym (ap (drop 3) same)) ∙ drop-drop (3 * length cs) 3 (drop (recording_at b) b) ∙ drop-drop (3 + 3 * length cs) (recording_at b) b
+      ∙ ap (λ (j : ℕ). drop j b) (omega arith)) in (
+        recording_at b + 3 + 3 * length cs,
+        (n, k, rest, first, made, ap (λ (l : List Call). recording_at b + 3 + 3 * length l) (sym (ap (λ (t : Told). t.calls) t ∙ q))),
+        ap first_command there ∙ closed_end _ _ _ left p,
+      )
+]

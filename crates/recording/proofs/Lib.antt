@@ -1,6 +1,7 @@
 mod Agreeing
 mod Asked
 mod Breaks
+mod Broken
 mod Calls
 mod Cuts
 mod Facts

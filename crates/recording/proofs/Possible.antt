@@ -105,7 +105,7 @@ module _ (b : List ℕ) where
       let tail = drop (3 * length all) rest in
       let left = travelling (state_after M z (new_state M) all).posts k in
       let end = recording_at b + 3 + 3 * length all in
-      broken_impossible M z rest (recording_at b + 3) (closed left end (first_command tail)) e place (closed_refuses left end (first_command tail) e place (λ h. (begins tail (Err (Refused e)) h).1 e refl)) is c cs
+      broken_impossible M z rest (recording_at b + 3) (closed left end (first_command tail)) e place (closed_refuses left end (first_command tail) e place (λ h. (begins tail (Err (Refused e)) h).1)) is c cs
       (λ i at. ap calls_in (there i at) ∙ h) p
     where
       there : (i : ℕ) → place ≡ recording_at b + 3 + i → drop i rest ≡ drop place b

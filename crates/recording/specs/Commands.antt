@@ -31,6 +31,7 @@ first_command (b ∷ rest) =
 abbrev pub event_in : ℕ → ℕ → Option Event
 event_in b x = if b == 0x01 then Some (send x) else if b == 0x02 then Some (receive x) else if b == 0x03 then Some (mark x) else None
 
+-- a call before others, if there is one; else none
 abbrev pub begun : ℕ → Option Event → List rules.Call → List rules.Call
 begun u None cs = []
 begun u (Some e) cs = call u e ∷ cs

@@ -1,26 +1,31 @@
 -- What is true of every report.
-use Rattle.std.specs.Prelude.{◌≡◌, ℕ, suc, ◌+◌, if◌then◌else◌, List, [], ◌∷◌, ◌++◌, length, drop, take, Some, None, Ok, Err, ◌↔◌, IsTrue, ◌==◌}
+use Rattle.std.specs.Prelude.{◌≡◌, ℕ, suc, ◌+◌, ◌*◌, ◌⊎◌, true, if◌then◌else◌, List, [], ◌∷◌, ◌++◌, length, drop, take, Some, None, Ok, Err, ◌↔◌, IsTrue, ◌==◌}
 use Rattle.std.specs.List.{slice_get}
 use Rattle.bitset.specs.Sets.{Member}
 use Rattle.history.specs.declared.refusals.Refusal.{Refusal}
+use Rattle.history.specs.Board as board
 use Rattle.history.specs.Counting.{HowMany}
 use Rattle.history.specs.Events.{Events, mark, at, Sent, Received}
 use Rattle.history.specs.Flows.{Place, Longest, word}
 use Rattle.history.specs.HappenedBefore.{Immediate}
 use Rattle.history.specs.Marks.{tick, marks}
 use Rattle.history.specs.Runs.{Size, Call, Possible, Run, by_unit, SameByUnit}
-use Rattle.causality.specs.Boards.{call, most_marks}
+use Rattle.causality.specs.Boards.{call, make_refusal, most_marks}
 use Rattle.measures.specs.Acceptance.{state_after as state_by, accepts}
 use Rattle.measures.specs.Formats.{states_in, labels_in, start_in, finals_in, table_in, count_in, entries_in, padded}
 use Rattle.measures.specs.Laws.{Judged}
 use Rattle.measures.specs.Relabellings.{translated}
 use Rattle.measures.specs.Words.{Word}
-use Rattle.measures.specs.Worths.{sized}
-use Rattle.recording.specs.declared.faults.Reason.TheVariants.{Refused}
+use Rattle.measures.specs.Worths.{carrying, sized}
+use Rattle.recording.specs.declared.commands.Command.{Command}
+use Rattle.recording.specs.declared.commands.Command.TheVariants as commands
+use Rattle.recording.specs.declared.faults.Reason.{Reason}
+use Rattle.recording.specs.declared.faults.Reason.TheVariants.{NoByte, NoCommand, NoOperands, NoBoard, SecondBoard, BytesAfterEnd, Refused}
 use Rattle.recording.specs.declared.faults.RecordingFault.{RecordingFault}
 use Rattle.recording.specs.declared.lines.MarkLine.{MarkLine}
-use Rattle.recording.specs.Commands.{calls_in}
+use Rattle.recording.specs.Commands.{first_command, calls_in}
 use Rattle.recording.specs.Faults.{broken}
+use Rattle.recording.specs.Recordings.{Told}
 use Rattle.recording.specs.Reports.{relabelling_at, recording_at, front_fault, judge_in, told_in}
 
 -- the size of the board that a recording makes
@@ -65,8 +70,45 @@ abbrev pub lines_of : ℕ → List MarkLine → List MarkLine
 lines_of u [] = []
 lines_of u (l ∷ ls) = if u == l.unit then l ∷ lines_of u ls else lines_of u ls
 
+-- a making that is refused for its size, where a recording begins
+abbrev pub RefusedMaking : List ℕ → ℕ → Refusal → Type 0
+RefusedMaking b place e =
+    (place ≡ recording_at b) × (n : ℕ) × (k : ℕ) × (rest : List ℕ) × (first_command (drop place b) ≡ Ok (commands.Make n k, rest)) × (make_refusal n k true ≡ Some e)
+
+-- the byte after the calls that were read, where a board was made
+abbrev pub AfterCalls : List ℕ → ℕ → Type 0
+AfterCalls b place =
+    (n : ℕ) × (k : ℕ) × (rest : List ℕ) × (first_command (drop (recording_at b) b) ≡ Ok (commands.Make n k, rest)) × (make_refusal n k true ≡ None)
+    × (place ≡ recording_at b + 3 + 3 * length (told_in b).calls)
+
+-- a call that the board refuses after the calls that were read
+abbrev pub RefusedCall : List ℕ → Told → ℕ → Refusal → Type 0
+RefusedCall b t place e =
+    let M = carrying (judge_in b) t.units in
+    let z = sized (judge_in b) t.units t.messages most_marks in
+    (c : Call) × (cs : List Call) × (calls_in (drop place b) ≡ c ∷ cs) × (board.refusal M z (board.run M z t.calls).state c.unit c.act ≡ Some e)
+
+-- bytes that are no whole command, where the recording begins or after its calls
+abbrev pub Malformed : List ℕ → ℕ → Reason → Type 0
+Malformed b place reason = ((place ≡ recording_at b) ⊎ AfterCalls b place) × (first_command (drop place b) ≡ Err reason)
+
+-- What stands where a recording breaks off: bytes that are no whole command; a command that makes no board, at the beginning, or one that makes
+-- a second, after the calls; bytes after an end; or a making or a call that is refused.
+abbrev pub Breaks : List ℕ → ℕ → Reason → Type 0
+Breaks b place NoByte = Malformed b place NoByte
+Breaks b place NoCommand = Malformed b place NoCommand
+Breaks b place NoOperands = Malformed b place NoOperands
+Breaks b place NoBoard =
+    (place ≡ recording_at b) × (c : Command) × (rest : List ℕ) × (first_command (drop place b) ≡ Ok (c, rest)) × ((n k : ℕ) → c ≡ commands.Make n k → ⊥)
+Breaks b place SecondBoard = AfterCalls b place × (n : ℕ) × (k : ℕ) × (rest : List ℕ) × (first_command (drop place b) ≡ Ok (commands.Make n k, rest))
+Breaks b place BytesAfterEnd = (p : ℕ) × (place ≡ suc p) × AfterCalls b p × (x : ℕ) × (rest : List ℕ) × (first_command (drop p b) ≡ Ok (commands.End, x ∷ rest))
+Breaks b place (Refused e) = RefusedMaking b place e ⊎ (AfterCalls b place × RefusedCall b (told_in b) place e)
+
 -- What is true of a report on an input whose pattern and relabelling are accepted.
 pub record ReportTrue (b : List ℕ) : Type 0 where
+  -- the board has the size that the making asks for
+  pub sized : (n k : ℕ) (rest : List ℕ) → first_command (drop (recording_at b) b) ≡ Ok (commands.Make n k, rest) → make_refusal n k true ≡ None
+      → ((told_in b).units ≡ n) × ((told_in b).messages ≡ k)
   -- the calls read, up to the end or to where the recording breaks off, are what a real run could do
   pub run : Run (size_in b) (told_in b).calls
   -- and a call that the board refuses, there, is none that could come next
@@ -74,6 +116,8 @@ pub record ReportTrue (b : List ℕ) : Type 0 where
       → Possible (size_in b) (by_unit (told_in b).calls) c.unit c.act → ⊥
   -- where it ends well, they are all calls after the command that makes the board
   pub all_read : (left : ℕ) → (told_in b).end ≡ Ok left → (told_in b).calls ≡ calls_in (drop 3 (drop (recording_at b) b))
+  -- and after them stands an end, and nothing more
+  pub ended : (left : ℕ) → (told_in b).end ≡ Ok left → (p : ℕ) × AfterCalls b p × (first_command (drop p b) ≡ Ok (commands.End, []))
   -- there is a line for each mark read, and no other, in the order of the recording
   pub lines_counted : length (told_in b).lines ≡ marks_among (told_in b).calls
   -- and it tells of the longest flows of the calls read up to that mark
@@ -85,6 +129,10 @@ pub record ReportTrue (b : List ℕ) : Type 0 where
   -- where the recording breaks off, its lines are exactly those of its part before the break
   pub part : (f : RecordingFault) → (told_in b).end ≡ Err f
       → (front_fault (take f.place b) ≡ None) × SameFront b (take f.place b) × ((told_in (take f.place b)).calls ≡ (told_in b).calls) × ((told_in (take f.place b)).lines ≡ (told_in b).lines)
+  -- the calls read are all that stand before the break
+  pub read_to : (f : RecordingFault) → (told_in b).end ≡ Err f → (told_in b).calls ≡ calls_in (drop (recording_at b + 3) (take f.place b))
+  -- and what stands there is a reason to break off
+  pub broke : (f : RecordingFault) → (told_in b).end ≡ Err f → Breaks b f.place f.reason
 
 -- What two reports have in common whose recordings have the same accepted calls unit by unit, whatever the numbers of units and of messages of
 -- their boards: each unit's lines, in their order; and the last line, if both end well.

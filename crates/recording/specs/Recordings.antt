@@ -37,8 +37,8 @@ abbrev pub refused_as : {T : Type 0} → Result T Refusal → Result T Reason
 refused_as (Ok x) = Ok x
 refused_as (Err e) = Err (Refused e)
 
--- How bytes that no call begins close a recording, after which `left` messages are on their way: they are the end, and nothing is left; or
--- else they break it off. Bytes that are a whole command, and no end, make a second board.
+-- How the bytes after the calls close a recording, with so many messages on their way: they are the end alone, or they break it off. No call begins
+-- them, so the last case does not arise.
 abbrev pub closed : ℕ → ℕ → Result (Command × List ℕ) Reason → Result ℕ RecordingFault
 closed left place (Err reason) = Err (broken reason place)
 closed left place (Ok (commands.End, [])) = Ok left
@@ -97,6 +97,7 @@ module _ (m : Meaning ℕ) (some all : ℕ → Bool) where
   abbrev pub told_nothing : Reason → ℕ → Told
   told_nothing reason place = record { units = 0; messages = 0; calls = []; lines = []; end = Err (broken reason place) }
 
+  -- a recording by its making, which is refused for its size, or makes the board on which the rest is told
   abbrev pub told_of_board : ℕ → ℕ → ℕ → List ℕ → Option Refusal → Told
   told_of_board n k place bytes (Some e) = told_nothing (Refused e) place
   told_of_board n k place bytes None = told_on n k (new_state (carrying m n)) (place + 3) bytes
@@ -112,7 +113,7 @@ module _ (m : Meaning ℕ) (some all : ℕ → Bool) where
   abbrev pub told : ℕ → List ℕ → Told
   told place bytes = told_from place (first_command bytes)
 
--- A telling of a recording that comes to so much: the lines of its marks are appended to what was written before, and it ends as the recording does.
+-- The lines of t are appended to the old text, and the result is t's end.
 abbrev pub Wrote : List ℕ → List ℕ → Told → Result ℕ RecordingFault → Type 0
 Wrote old new t result = (new ≡ old ++ mark_lines t.lines) × (result ≡ t.end)
 

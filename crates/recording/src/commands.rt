@@ -14,7 +14,7 @@ pub(crate) enum Command {
     End,
 }
 
-// The command of a call, by the bytes of its unit.
+// The command that hands a unit's event to the board.
 fn call(unit: u8, event: Event) -> Command
     ensures { result ≡ called (record { unit = unit; event = event }) }
 {

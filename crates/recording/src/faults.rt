@@ -1,13 +1,13 @@
-// Why a report ends before the end of a recording.
+// The faults that end a report.
 ghost use Rattle.std.specs.Prelude.{◌≡◌, [], ◌∷◌};
 ghost use Rattle.recording.specs.Faults.{letter, number, place};
 
 use history::Refusal;
 
-// A longer input is not read.
+// The most bytes of an input.
 pub(crate) const MOST_BYTES: usize = 65536;
 
-// The number of the fault that no crate below has: too much input.
+// The number of an input that is too long.
 const TOO_LONG: u8 = 29;
 
 // Why a recording breaks off: a fault of its form, or a call that the board refuses.

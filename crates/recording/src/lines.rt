@@ -9,7 +9,7 @@ use causality::Clock;
 use std::alloc::{AllocError, Global};
 use std::marker::Model;
 
-// The longest line is a mark's: three numbers of at most 20 digits, 16 hexadecimal digits, and 8 more bytes.
+// The longest line is a mark's: three numbers, each counted as 20 digits, 16 hexadecimal digits, and 8 more bytes.
 pub(crate) const MOST_LINE: usize = 84;
 
 // How many bytes are made ready for lines at a time.

@@ -14,10 +14,9 @@ mod tests;
 use std::io;
 use std::io::{Read, Write};
 
-// Reads all input, up to a byte past the limit, and writes the report.
+// Reads all input, up to a byte past the limit, which tells that there are too many, and writes the report.
 fn main(rt: HostRuntime) -> io::Result<()> {
     let mut input = Vec::new(rt.alloc());
-    // one byte past the limit tells that there are too many
     rt.stdin()
         .take(faults::MOST_BYTES as u64 + 1)
         .read_to_end(&mut input)?;

@@ -1,5 +1,5 @@
 // A recording, read command by command and handed to a board.
-ghost use Rattle.std.specs.Prelude.{◌≡◌, ℕ, ◌+◌, ◌*◌, ◌^◌, ◌<◌, ◌≤◌, true, length, drop, Ok, Result};
+ghost use Rattle.std.specs.Prelude.{◌≡◌, ℕ, ◌+◌, ◌*◌, ◌^◌, ◌<◌, ◌≤◌, true, length, Ok, Result};
 ghost use Rattle.history.specs.declared.refusals.Refusal.{Refusal as ghost_refusal};
 ghost use Rattle.history.specs.Board.{State, Answer};
 ghost use Rattle.grid.specs.Grids.{SameMemory};
@@ -51,7 +51,7 @@ fn answered<T>(told: Result<T, Refusal>) -> Result<T, Reason>
     Ok(told?)
 }
 
-// Hands one call to a board. Answers the line of a mark.
+// Hands one call to a board. Answers the line of a mark; the board's own `hand` has no verdict for it.
 fn hand<J: Judge<Value = u64>>(
     board: &MeasuredBoard<J>,
     clocks: &mut Grid<'_, Clock>,
@@ -106,7 +106,7 @@ fn close<J: Judge<Value = u64>>(
 }
 
 // Reads the commands from a byte of the input on, and hands the calls to a board, up to the end or to where the recording breaks off. A mark's line
-// is written: of 84 bytes at most, and a mark takes 3. Answers how many messages are left on their way.
+// is written: at most 84 bytes for a mark's 3, so 28 for each byte. Answers how many messages are left on their way.
 fn follow<J: Judge<Value = u64>>(
     page: &mut Page,
     board: &MeasuredBoard<J>,

@@ -4,7 +4,7 @@ use std::process::Abort;
 use std::test::Fail;
 
 // A pattern of 5 states and 3 labels, in 27 bytes; and the relabelling after it: label 0 is waiting, 1 sound and 2 beacon.
-// A good chain is made of rounds: waiting, then beacon, then sound.
+// A flow is good if it ends with a sound that follows a beacon heard while waiting.
 const FRONT: [u8; 32] = [
     0x20, 5, 3, 0, 0x08, 0, 0, 0, 0, 0, 0, 0, 4, 1, 4, 2, 1, 4, 2, 1, 3, 4, 1, 4, 4, 4, 4, 0x30, 3,
     1, 2, 0,
