@@ -1,5 +1,6 @@
 // Sets of the numbers 0 to 63, each one word: number q is in the set exactly when bit q of the word is 1.
-// A rule of the project asks for plain words, with shifts and masks.
+// The states of patterns and the units of predecessors are such sets. Plain words with shifts and masks are a rule of the project
+// (docs/DECISIONS.md). Stands on nothing here.
 #![tactic(auto)]
 
 ghost use Rattle.std.specs.Prelude.{◌≡◌, ℕ, ◌^◌, ◌<◌, ◌&&◌, ◌||◌, false, if◌then◌else◌, length, ◌↔◌, IsTrue, Some, None, MatchOption, bit_or, min, nat_lt, slice_index_or};

@@ -8,7 +8,9 @@ use Rattle.history.specs.declared.messages.Handling.{Handling}
 use Rattle.history.specs.declared.messages.Post.{Post}
 use Rattle.history.specs.Rows.{Cell}
 use Rattle.history.specs.Board.{State}
-use Rattle.causality.specs.Boards.{Holds, has_room, fits_board, unit_refusal, handling_refusal, mark_refusal, most_marks}
+use Rattle.history.specs.Limits.{most_marks}
+use Rattle.causality.specs.Boards.{Holds, has_room, fits_board}
+use Rattle.causality.specs.Calls.{unit_refusal, handling_refusal, mark_refusal}
 
 -- a grid is as wide as the board, and has all its rows
 pub record Room {X : Type 0} (n k : ℕ) (g : Grid X) : Type 0 where

@@ -1,6 +1,7 @@
 -- The answer of a comparison is the causal order of the marks.
 use Rattle.std.proofs.Common.{◌≡◌, ℕ, ◌<◌, ◌≤◌, List, length, get_or, None, Ok, Result, ap, arith}
 use Rattle.std.proofs.lemmas.Bool.Decides.{nat_tests}
+use Rattle.history.specs.Limits.{most_units}
 use Rattle.history.specs.Precedence.{compare_refusal, compare_answer}
 use Rattle.history.specs.declared.precedence.Precedence.{Precedence}
 use Rattle.history.specs.declared.refusals.Refusal.{Refusal}
@@ -8,7 +9,7 @@ use Rattle.history.proofs.Compare.{stamps_decide, run_unit}
 use Rattle.causality.specs.Comparing.{OrdersMarks}
 
 module _ (p q : List ℕ) (u v : ℕ) where
-  compared_taken : (n : ℕ) → n ≤ 16 → length p ≡ n → length q ≡ n → u < n → v < n → compare_refusal p q u v ≡ None
+  compared_taken : (n : ℕ) → n ≤ most_units → length p ≡ n → length q ≡ n → u < n → v < n → compare_refusal p q u v ≡ None
   compared_taken n few lp lq hu hv = grind (arith, nat_tests)
 
   pub orders_marks : OrdersMarks p q u v (compare_answer p q u v)

@@ -4,7 +4,8 @@ use Rattle.std.specs.Prelude.{count_by}
 use Rattle.std.proofs.lemmas.List.Sums.{count_by_more_no, count_by_more_yes}
 use Rattle.history.specs.declared.messages.Post.{Post}
 use Rattle.history.specs.declared.messages.Post.TheVariants.{Unsent}
-use Rattle.causality.specs.Boards.{EachShows, travels, travelling}
+use Rattle.history.specs.Messages.{travels}
+use Rattle.causality.specs.Boards.{EachShows, travelling}
 
 -- only the states of the messages below k count
 pub travelling_same : (f g : ℕ → Post) (k : ℕ) → ((m : ℕ) → m < k → f m ≡ g m) → travelling f k ≡ travelling g k

@@ -13,7 +13,8 @@ use Rattle.history.specs.declared.messages.Post.TheVariants.{Unsent}
 use Rattle.history.specs.declared.refusals.Refusal.{Refusal}
 use Rattle.history.specs.Rows.{Cell, Payload, nothing}
 use Rattle.history.specs.Board.{new_state}
-use Rattle.causality.specs.Boards.{Holds, SameFrom, Makes, bare, has_room, size_refusal, make_refusal}
+use Rattle.causality.specs.Boards.{Holds, SameFrom, Makes, has_room, make_refusal}
+use Rattle.causality.specs.Calls.{bare, size_refusal}
 use Rattle.causality.proofs.Calling.{Room, nothing_held}
 use Rattle.causality.proofs.Showing.{same_all}
 

@@ -13,7 +13,10 @@ use Rattle.history.specs.declared.messages.Post.{Post}
 use Rattle.history.specs.Events.{mark}
 use Rattle.history.specs.Rows.{nothing, mark_row}
 use Rattle.history.specs.Board.{State, marked, refusal, acted}
-use Rattle.causality.specs.Boards.{Memory, Shows, Follows, call, bare, bare_size, has_room, flags_in, most_marks}
+use Rattle.history.specs.Limits.{most_marks, most_units}
+use Rattle.causality.specs.Boards.{Memory, Shows, Follows, has_room}
+use Rattle.causality.specs.Calls.{bare, bare_size, flags_in}
+use Rattle.history.specs.Runs.{call}
 use Rattle.causality.proofs.Calling.{Room, Ready, room_row, room_there, nothing_held}
 use Rattle.causality.proofs.Following.{taken_follows}
 use Rattle.causality.proofs.Showing.{same_from, same_all, holds_unit}
@@ -68,7 +71,7 @@ module _ (n k u l : ℕ) (fits : ℕ → ℕ → Bool) (labelled : fits u l ≡ 
       }))
 
 -- the flags of a row of a board, as a number
-pub flagged_row : {n k : ℕ} {g : Grid Bool} → Room n k g → n ≤ 16 → (u : ℕ) → u < n + k → (units : ℕ) → units ≡ (if has_row g u then flags_in (row g.cells.now g.width u) else 0)
+pub flagged_row : {n k : ℕ} {g : Grid Bool} → Room n k g → n ≤ most_units → (u : ℕ) → u < n + k → (units : ℕ) → units ≡ (if has_row g u then flags_in (row g.cells.now g.width u) else 0)
     → units ≡ those (λ j. get_or g.cells.now (u * n + j) false) n
 flagged_row {n = n} {g = g} r few u h units is =
     let cells = row g.cells.now n u in

@@ -10,7 +10,9 @@ use Rattle.history.specs.Events.{send}
 use Rattle.history.specs.Messages.{moved}
 use Rattle.history.specs.Rows.{nothing}
 use Rattle.history.specs.Board.{State, own_clock, refusal, acted}
-use Rattle.causality.specs.Boards.{Memory, Shows, Follows, call, bare, bare_size, has_room}
+use Rattle.causality.specs.Boards.{Memory, Shows, Follows, has_room}
+use Rattle.causality.specs.Calls.{bare, bare_size}
+use Rattle.history.specs.Runs.{call}
 use Rattle.causality.proofs.Calling.{Ready, nothing_held}
 use Rattle.causality.proofs.Following.{taken_follows}
 use Rattle.causality.proofs.Showing.{same_from, same_all, holds_message, post_set, post_beyond}

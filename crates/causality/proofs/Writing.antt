@@ -5,7 +5,7 @@ use Rattle.grid.specs.declared.Grid.{Grid}
 use Rattle.grid.specs.declared.RowPair.{RowPair}
 use Rattle.grid.specs.declared.errors.GridError.{GridError}
 use Rattle.grid.specs.declared.errors.GridError.TheVariants.{NoSuchRow, NoSuchColumn}
-use Rattle.grid.specs.Grids.{ask, has_row, has_rows, row_pair, SameMemory}
+use Rattle.grid.specs.Grids.{ask, has_row, has_rows, row_pair, SameLoan}
 use Rattle.grid.specs.Rows.{row, with_row, tabled}
 use Rattle.grid.proofs.Written.{RowIs, copied_row, filled_row, cell_set, tabled_row, row_same, twice}
 use Rattle.history.specs.Rows.{Cell}
@@ -36,7 +36,7 @@ module _ {X : Type 0} {n k : ℕ} {g : Grid X} (r : Room n k g) (d : X) (new : L
       cell_set n t d g.cells.now (room_row r t h) u v new hu (is ∙ rw ok (ap (λ (w : ℕ). set g.cells.now (t * w + u) v) r.width))
 
 -- a row that is filled, and then one cell of it set
-pub reset : {X : Type 0} {n k : ℕ} {g mid : Grid X} → Room n k g → SameMemory g mid → (d v w : X) (new : List X) (x y : Result (Unit {0}) GridError) (t u : ℕ) → t < n + k → u < n
+pub reset : {X : Type 0} {n k : ℕ} {g mid : Grid X} → Room n k g → SameLoan g mid → (d v w : X) (new : List X) (x y : Result (Unit {0}) GridError) (t u : ℕ) → t < n + k → u < n
     → x ≡ ask (has_row g t) NoSuchRow (Ok tt) → mid.cells.now ≡ (if is_ok x then with_row g.cells.now g.width t (replicate g.width v) else g.cells.now)
     → y ≡ ask (has_row mid t) NoSuchRow (ask (nat_lt u mid.width) NoSuchColumn (Ok tt)) → new ≡ (if is_ok y then set mid.cells.now (t * mid.width + u) w else mid.cells.now)
     → RowIs n t d (λ j. cond (eqb j u) w v) g.cells.now new

@@ -1,20 +1,16 @@
 -- Boards in memory that the caller lends: what a memory shows, and what each call on a board owes.
-use Rattle.std.specs.Prelude.{◌≡◌, ℕ, zero, suc, ◌+◌, ◌*◌, ◌<◌, ◌≤◌, Bool, true, false, ◌&&◌, List, [], length, min, if◌then◌else◌, Some, None, Ok, Err, Option, Result, ◌==◌, nat_le, nat_lt, slice_index, slice_index_or}
-use Rattle.std.specs.Result.{result_err}
-use Rattle.bitset.specs.Sets.{those}
+use Rattle.std.specs.Prelude.{◌≡◌, ℕ, zero, suc, ◌+◌, ◌*◌, ◌<◌, ◌≤◌, Bool, false, ◌&&◌, List, length, if◌then◌else◌, Some, None, Ok, Err, Option, Result, ◌==◌, nat_le, nat_lt, slice_index_or}
 use Rattle.grid.specs.declared.Grid.{Grid}
-use Rattle.history.specs.declared.messages.Handling.{Handling}
 use Rattle.history.specs.declared.messages.Post.{Post}
-use Rattle.history.specs.declared.messages.Post.TheVariants.{Unsent, OnItsWay, Delivered}
+use Rattle.history.specs.declared.messages.Post.TheVariants.{Unsent}
 use Rattle.history.specs.declared.refusals.Refusal.{Refusal}
-use Rattle.history.specs.declared.refusals.Refusal.TheVariants.{UnitCount, MessageCount, MemoryTooShort, NoSuchUnit, NoSuchMessage, ClockFull}
-use Rattle.history.specs.Events.{Event}
-use Rattle.history.specs.Messages.{moved}
+use Rattle.history.specs.declared.refusals.Refusal.TheVariants.{UnitCount, MessageCount, MemoryTooShort, NoSuchMessage}
+use Rattle.history.specs.Messages.{travels}
 use Rattle.history.specs.Refusals.{ask}
 use Rattle.history.specs.Rows.{Cell, Payload}
-use Rattle.history.specs.Runs.{Size, Call, most_units}
-use Rattle.history.specs.Board.{State, Answer, own_clock, marked, new_state, next, outcome}
-use Rattle.causality.specs.declared.boards.Marked as code
+use Rattle.history.specs.Limits.{most_units, most_messages}
+use Rattle.history.specs.Runs.{Size, Call}
+use Rattle.history.specs.Board.{State, Answer, new_state, next, outcome}
 
 -- What the caller brings to each call on a board: three grids, of clocks, flags and values, and the states of the messages.
 pub record Memory (V : Type 0) : Type 0 where
@@ -66,18 +62,6 @@ pub record Makes {V : Type 0} (M : Payload V) (n k : ℕ) (refusal : Option Refu
   pub beyond : SameBeyond M.start n k old new
   pub refused : (e : Refusal) → refusal ≡ Some e → new ≡ old
 
--- a call of unit u
-abbrev pub call : ℕ → Event → Call
-call u e = record { unit = u; act = e }
-
--- A unit can make so many marks: its own clock has 16 bits.
-abbrev pub most_marks : ℕ
-most_marks = 65535
-
--- A board has at most so many messages.
-abbrev pub most_messages : ℕ
-most_messages = 255
-
 -- whether a grid is as wide as a board of n units, and has all of the n + k rows
 abbrev pub fits_board : {X : Type 0} → ℕ → ℕ → Grid X → Bool
 fits_board n k grid = grid.width == n && nat_le ((n + k) * n) (length grid.cells.now)
@@ -86,50 +70,14 @@ fits_board n k grid = grid.width == n && nat_le ((n + k) * n) (length grid.cells
 abbrev pub has_room : ℕ → ℕ → Grid ℕ → Grid Bool → List Post → Bool
 has_room n k clocks flags posts = fits_board n k clocks && (fits_board n k flags && nat_le k (length posts))
 
--- the memory of a board without measures, which has no values
-abbrev pub bare : Grid ℕ → Grid Bool → List Post → Memory (Unit {0})
-bare clocks flags posts = record { clocks = clocks.cells.now; flags = flags.cells.now; values = []; posts = posts }
-
--- A board without measures knows no labels: which of them fit is left open.
-abbrev pub bare_size : ℕ → ℕ → (ℕ → ℕ → Bool) → Size
-bare_size n k fits = record { units = n; messages = k; fits = fits; limit = most_marks }
-
--- the questions about the size of a board
-abbrev pub size_refusal : ℕ → ℕ → Option Refusal
-size_refusal n k = ask (nat_le 1 n && nat_le n most_units) UnitCount (ask (nat_le k most_messages) MessageCount None)
-
 -- The questions that a making asks, in their order; the first no gives the refusal.
 abbrev pub make_refusal : ℕ → ℕ → Bool → Option Refusal
 make_refusal n k room =
     ask (nat_le 1 n && nat_le n most_units) UnitCount (ask (nat_le k most_messages) MessageCount (ask room MemoryTooShort None))
 
--- the questions that a call of a unit begins with
-abbrev pub unit_refusal : ℕ → Bool → ℕ → Option Refusal
-unit_refusal n room u = ask room MemoryTooShort (ask (nat_lt u n) NoSuchUnit None)
-
--- the questions of a send or of a receipt, by the states of the messages
-abbrev pub handling_refusal : ℕ → ℕ → Bool → List Post → ℕ → ℕ → Handling → Option Refusal
-handling_refusal n k room posts u m handling =
-    ask room MemoryTooShort (ask (nat_lt u n) NoSuchUnit (ask (nat_lt m k) NoSuchMessage (result_err (moved (slice_index_or posts m Unsent) handling))))
-
--- the questions of a mark that a board without measures asks, by the clocks
-abbrev pub mark_refusal : ℕ → Bool → List ℕ → ℕ → Option Refusal
-mark_refusal n room clocks u =
-    ask room MemoryTooShort (ask (nat_lt u n) NoSuchUnit (ask (nat_lt (slice_index clocks (u * n + u)) most_marks) ClockFull None))
-
 -- the state of message m, or why it is not told
 abbrev pub state_answer : ℕ → Bool → List Post → ℕ → Result Post Refusal
 state_answer k room posts m = if room then (if nat_lt m k then Ok (slice_index_or posts m Unsent) else Err NoSuchMessage) else Err MemoryTooShort
-
--- the units whose flag in a row is yes, as a number
-abbrev pub flags_in : List Bool → ℕ
-flags_in flags = those (λ j. slice_index_or flags j false) (min (length flags) 64)
-
--- whether a message in this state is on its way
-abbrev pub travels : Post → Bool
-travels Unsent = false
-travels OnItsWay = true
-travels Delivered = false
 
 -- how many of the messages below k are on their way
 abbrev pub travelling : (ℕ → Post) → ℕ → ℕ
@@ -139,13 +87,3 @@ travelling posts (suc k) = travelling posts k + (if travels (posts k) then 1 els
 -- how many messages are on their way, or why it is not told
 abbrev pub left_answer : ℕ → Bool → List Post → Result ℕ Refusal
 left_answer k room posts = if room then Ok (travelling (λ m. slice_index_or posts m Unsent) k) else Err MemoryTooShort
-
--- what a send or a receipt answers
-abbrev pub clock_told : {V : Type 0} → Result ℕ Refusal → Result (Answer V) Refusal
-clock_told (Ok clock) = Ok (own_clock clock)
-clock_told (Err e) = Err e
-
--- what a mark answers
-abbrev pub mark_told : {V : Type 0} → Result (code.Marked V) Refusal → Result (Answer V) Refusal
-mark_told (Ok m) = Ok (marked m.clock m.predecessors m.value)
-mark_told (Err e) = Err e

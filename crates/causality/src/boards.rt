@@ -1,24 +1,24 @@
-// A board follows a recording: what each unit knows of the others' marks. This one has no measure.
+// A board follows the calls of a run: what each unit knows of the others' marks. This one has no measure.
 // Each call asks its questions first, and the first no refuses it; after them all rows that it names are there, so that the grids refuse
 // nothing, and what they answer is dropped.
 ghost use Rattle.std.specs.Prelude.{◌≡◌, ℕ, ◌+◌, ◌*◌, ◌<◌, ◌≤◌, Bool, true, ◌&&◌, ◌++◌, drop, length, replicate, Some, None, IfOk, MatchResult, count_by, if◌then◌else◌, slice_index, slice_index_or};
 ghost use Rattle.bitset.specs.Sets.{those};
-ghost use Rattle.grid.specs.Grids.{has_row, SameMemory};
+ghost use Rattle.grid.specs.Grids.{has_row, SameLoan};
 ghost use Rattle.grid.specs.Rows.{row as row_of};
 ghost use Rattle.history.specs.declared.messages.Post.TheVariants.{Unsent};
 ghost use Rattle.history.specs.Events.{send, receive, mark};
-ghost use Rattle.history.specs.Messages.{moved};
+ghost use Rattle.history.specs.Limits.{most_marks, most_messages, most_units};
+ghost use Rattle.history.specs.Messages.{moved, travels};
 ghost use Rattle.history.specs.Rows.{nothing};
-ghost use Rattle.causality.specs.Boards.{EachShows, Follows, Makes, most_marks, size_refusal, travels, flags_in, call, bare, bare_size, fits_board, has_room, make_refusal, unit_refusal, handling_refusal, mark_refusal, state_answer, left_answer, clock_told, mark_told};
+ghost use Rattle.causality.specs.Boards.{EachShows, Follows, Makes, fits_board, has_room, make_refusal, state_answer, left_answer};
+ghost use Rattle.causality.specs.Calls.{size_refusal, flags_in, bare, bare_size, unit_refusal, handling_refusal, mark_refusal, clock_told, mark_told};
+ghost use Rattle.history.specs.Runs.{call};
 
-use super::Clock;
 use super::merging::merge_rows;
+use super::{Clock, MAX_MESSAGES, MAX_UNITS};
 use bitset::positions;
 use grid::{Grid, at_or, fill};
-use history::{Handling, MAX_UNITS, Post, Refusal};
-
-// A board has at most so many messages.
-pub const MAX_MESSAGES: usize = 255;
+use history::{Handling, Post, Refusal};
 
 // A board of `units` units and `messages` messages. Its rows and the states of its messages lie in memory that the caller brings to each
 // call: a grid of clocks and one of flags, each as wide as the board has units, with row u for unit u and row units + m for message m.
@@ -27,8 +27,8 @@ pub struct Board {
     pub units: usize,
     pub messages: usize,
     ghost some_units: { 0 < units },
-    ghost few_units: { units ≤ 16 },
-    ghost few_messages: { messages ≤ 255 },
+    ghost few_units: { units ≤ most_units },
+    ghost few_messages: { messages ≤ most_messages },
 }
 
 // What an accepted mark is told: its unit's own clock, a number with bit v for each unit v that has an immediate predecessor of it, and
@@ -64,8 +64,8 @@ impl Board {
     ) -> Result<Board, Refusal>
         ensures answer { MatchResult result (λ b. (make_refusal units messages (has_room units messages clocks.old flags.old posts.old) ≡ None) × (b.units ≡ units) × (b.messages ≡ messages)) (λ e. make_refusal units messages (has_room units messages clocks.old flags.old posts.old) ≡ Some e) }
         ensures memory { Makes nothing units messages (make_refusal units messages (has_room units messages clocks.old flags.old posts.old)) (bare clocks.old flags.old posts.old) (bare clocks.new flags.new posts.new) }
-        ensures clocks_memory { SameMemory clocks.old clocks.new }
-        ensures flags_memory { SameMemory flags.old flags.new }
+        ensures clocks_loan { SameLoan clocks.old clocks.new }
+        ensures flags_loan { SameLoan flags.old flags.new }
     {
         let board = Board::sized(units, messages)?;
         if !board.has_memory(clocks, flags, posts) {
@@ -174,8 +174,8 @@ impl Board {
         message: usize,
     ) -> Result<Clock, Refusal>
         ensures follows { (fits : ℕ → ℕ → Bool) → Follows nothing (bare_size self.now.units self.now.messages fits) (call unit (send message)) (has_room self.now.units self.now.messages clocks.old flags.old posts.old) (bare clocks.old flags.old posts.old) (bare clocks.new flags.new posts.new) (clock_told result) }
-        ensures clocks_memory { SameMemory clocks.old clocks.new }
-        ensures flags_memory { SameMemory flags.old flags.new }
+        ensures clocks_loan { SameLoan clocks.old clocks.new }
+        ensures flags_loan { SameLoan flags.old flags.new }
     {
         let post = self.ask_message(clocks, flags, posts, unit, message, Handling::Sending)?;
         let row = self.units + message;
@@ -195,8 +195,8 @@ impl Board {
         message: usize,
     ) -> Result<Clock, Refusal>
         ensures follows { (fits : ℕ → ℕ → Bool) → Follows nothing (bare_size self.now.units self.now.messages fits) (call unit (receive message)) (has_room self.now.units self.now.messages clocks.old flags.old posts.old) (bare clocks.old flags.old posts.old) (bare clocks.new flags.new posts.new) (clock_told result) }
-        ensures clocks_memory { SameMemory clocks.old clocks.new }
-        ensures flags_memory { SameMemory flags.old flags.new }
+        ensures clocks_loan { SameLoan clocks.old clocks.new }
+        ensures flags_loan { SameLoan flags.old flags.new }
     {
         let post = self.ask_message(clocks, flags, posts, unit, message, Handling::Receiving)?;
         merge_rows(clocks, flags, self.units + message, unit).ok();
@@ -214,8 +214,8 @@ impl Board {
         unit: usize,
     ) -> Result<Marked<()>, Refusal>
         ensures follows { (fits : ℕ → ℕ → Bool) (label : ℕ) → fits unit label ≡ true → Follows nothing (bare_size self.now.units self.now.messages fits) (call unit (mark label)) (has_room self.now.units self.now.messages clocks.old flags.old posts.now) (bare clocks.old flags.old posts.now) (bare clocks.new flags.new posts.now) (mark_told result) }
-        ensures clocks_memory { SameMemory clocks.old clocks.new }
-        ensures flags_memory { SameMemory flags.old flags.new }
+        ensures clocks_loan { SameLoan clocks.old clocks.new }
+        ensures flags_loan { SameLoan flags.old flags.new }
     {
         let own = self.ask_mark(clocks, flags, posts, unit)?;
         let clock = own + 1;
@@ -288,8 +288,5 @@ fn begin_posts(posts: &mut [Post], messages: usize)
 fn travelling(posts: &[Post]) -> usize
     ensures { result ≡ count_by travels posts.now }
 {
-    posts
-        .iter()
-        .filter(|post| matches!(post, Post::OnItsWay))
-        .count()
+    posts.iter().filter(|post| post.travels()).count()
 }

@@ -1,6 +1,6 @@
 // The merge of a message's row into a unit's row, cell by cell.
 ghost use Rattle.std.specs.Prelude.{◌≡◌, ◌+◌, ◌*◌, ◌<◌, ◌≤◌, length, if◌then◌else◌, IfOk, is_ok, slice_set};
-ghost use Rattle.grid.specs.Grids.{row_pair, LieWithin, SameMemory};
+ghost use Rattle.grid.specs.Grids.{row_pair, LieWithin, SameLoan};
 ghost use Rattle.history.specs.Rows.{merged_cell, news};
 ghost use Rattle.causality.specs.Merging.{cell, cell_at, merged_bare, ask_rows, merged_clocks, merged_flags};
 
@@ -58,7 +58,7 @@ pub fn merge_cell<V: Copy>(start: V, own: Cell<V>, other: Cell<V>) -> Cell<V>
 }
 
 // Merges cell j of row `from` into cell j of row `to`; the other row's cell is taken out by value first.
-// No twin of the column of values: that one reads clocks and flags, which this one writes, and each memory is lent on its own.
+// The column of values is merged before it, by clocks and flags as they were (`measures`).
 #[tactic(auto, using(grid::proofs::Cells::put_at))]
 fn merge_column(clocks: &mut [Clock], flags: &mut [bool], rows: RowPair, j: usize)
     requires column { j < rows.width }
@@ -104,8 +104,8 @@ pub fn merge_rows(
     ensures answer { result ≡ ask_rows clocks.old flags.old from to (Ok tt) }
     ensures clocks { clocks.new.cells.now ≡ (if is_ok result then merged_clocks clocks.old.cells.now flags.old.cells.now (row_pair clocks.old from to) else clocks.old.cells.now) }
     ensures flags { flags.new.cells.now ≡ (if is_ok result then merged_flags clocks.old.cells.now flags.old.cells.now (row_pair clocks.old from to) else flags.old.cells.now) }
-    ensures clocks_memory { SameMemory clocks.old clocks.new }
-    ensures flags_memory { SameMemory flags.old flags.new }
+    ensures clocks_loan { SameLoan clocks.old clocks.new }
+    ensures flags_loan { SameLoan flags.old flags.new }
 {
     let rows = rows_to_merge(clocks, flags, from, to)?;
     for j in 0..rows.width {

@@ -2,11 +2,11 @@
 ghost use Rattle.std.specs.Prelude.{◌≡◌, ◌<◌, ◌&&◌, length, if◌then◌else◌, ◌==◌, nat_le, slice_index};
 ghost use Rattle.history.specs.declared.precedence.Precedence.TheVariants.{Same, Precedes, Follows, Concurrent};
 ghost use Rattle.history.specs.Precedence.{compare_answer, compared};
-ghost use Rattle.history.specs.Runs.{most_units};
+ghost use Rattle.history.specs.Limits.{most_units};
 ghost use Rattle.causality.specs.Comparing.{OrdersMarks};
 
-use super::Clock;
-use history::{MAX_UNITS, Precedence, Refusal};
+use super::{Clock, MAX_UNITS};
+use history::{Precedence, Refusal};
 
 // The stamp of a mark, and the unit that made the mark.
 #[derive(Clone, Copy, PartialEq, Eq, Debug)]

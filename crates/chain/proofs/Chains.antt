@@ -5,7 +5,8 @@ use Rattle.std.proofs.lemmas.Bool.{cases_lt, lt-ltb, ltb-true, ne_eqb, eqb-true}
 use Rattle.std.proofs.lemmas.List.Sums.{prefix_len_passes, prefix_len_stops}
 use Rattle.measures.specs.Words.{Letter, Word, Labels}
 use Rattle.chain.specs.declared.lines.Stop.TheVariants.{UnknownLabel}
-use Rattle.chain.specs.Lines.{line_of, mark_text, verdict_text, fault_text}
+use Rattle.chain.specs.Lines.{mark_text, verdict_text, fault_text}
+use Rattle.text.specs.Lines.{line_of}
 use Rattle.chain.specs.Walks.{known_count, lines, last_line, walk}
 
 -- One more label below n.

@@ -5,7 +5,7 @@ use Rattle.measures.specs.Formats.{labels_in}
 use Rattle.measures.specs.Measures.{Meaning, carried}
 use Rattle.measures.specs.Words.{Word}
 use Rattle.chain.specs.declared.lines.Stop.{Stop}
-use Rattle.chain.specs.Lines.{line_of}
+use Rattle.text.specs.Lines.{line_of}
 use Rattle.chain.specs.Walks.{walk, walk_by}
 use Rattle.chain.specs.Reports.{chain_start, stop_on, told, report_on}
 use Rattle.chain.proofs.Chains.{walk_same}

@@ -1,2 +1,3 @@
 mod Chains
 mod Judgement
+mod TooLong

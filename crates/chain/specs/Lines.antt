@@ -1,13 +1,11 @@
 -- The lines of a report.
-use Rattle.std.specs.Prelude.{ℕ, Bool, if◌then◌else◌, List, ◌++◌, codes, decimal}
+use Rattle.std.specs.Prelude.{ℕ, Bool, List, ◌++◌, codes, decimal}
 use Rattle.measures.specs.Refusals as refusing
 use Rattle.text.specs.Hex.{hex_word}
+use Rattle.text.specs.Lines.{bit}
 use Rattle.chain.specs.declared.lines.Stop.{Stop}
 use Rattle.chain.specs.declared.lines.Stop.TheVariants.{TooLong, BadPattern, UnknownLabel}
-
--- a text as a line
-abbrev pub line_of : List ℕ → List ℕ
-line_of text = text ++ codes "\n"
+use Rattle.text.specs.Inputs.{most_bytes}
 
 -- Each fault, with the letter of its layer (I, P, B), its number and its place.
 abbrev pub letter : Stop → List ℕ
@@ -23,7 +21,7 @@ number (UnknownLabel p) = 6
 
 -- the byte at which each fault is told
 abbrev pub place : Stop → ℕ
-place TooLong = 65536
+place TooLong = most_bytes
 place (BadPattern f) = f.place
 place (UnknownLabel p) = p
 
@@ -34,10 +32,6 @@ fault_text s = codes "fault " ++ letter s ++ codes " " ++ decimal (number s) ++ 
 -- what is told of a mark: its position from 1, its label, and the set of states after it
 abbrev pub mark_text : ℕ → ℕ → ℕ → List ℕ
 mark_text position label states = decimal position ++ codes " " ++ decimal label ++ codes " " ++ hex_word states
-
--- 1 for yes, 0 for no
-abbrev pub bit : Bool → ℕ
-bit b = if b then 1 else 0
 
 -- what is told at the end: the verdict
 abbrev pub verdict_text : Bool → Bool → List ℕ

@@ -4,7 +4,8 @@ use Rattle.std.specs.List.{prefix_len}
 use Rattle.measures.specs.Measures.{Meaning, carried}
 use Rattle.measures.specs.Words.{Word}
 use Rattle.chain.specs.declared.lines.Stop.TheVariants.{UnknownLabel}
-use Rattle.chain.specs.Lines.{line_of, mark_text, verdict_text, fault_text}
+use Rattle.chain.specs.Lines.{mark_text, verdict_text, fault_text}
+use Rattle.text.specs.Lines.{line_of}
 
 -- how many labels stand before the first that is not below n
 abbrev pub known_count : ℕ → Word → ℕ

@@ -34,7 +34,7 @@ impl Stop {
         ensures { result ≡ place self }
     {
         match self {
-            Stop::TooLong => crate::reports::MOST_BYTES,
+            Stop::TooLong => text::MOST_BYTES,
             Stop::BadPattern(fault) => fault.place,
             Stop::UnknownLabel(place) => place,
         }

@@ -1,5 +1,6 @@
 // The report on a chain.
-ghost use Rattle.std.specs.Prelude.{◌≡◌, IfOk, Some, None, MatchResult, string_bytes};
+ghost use Rattle.std.specs.Prelude.{◌≡◌, IfOk, IfSome, OnOk, Some, None, MatchResult, string_bytes};
+ghost use Rattle.std.specs.Io.KnownBytes.{Appends};
 ghost use Rattle.measures.specs.Acceptance.{Recognizes};
 ghost use Rattle.chain.specs.Reports.{chain_start, stop_on, report_on};
 
@@ -7,11 +8,11 @@ use super::lines::Stop;
 use super::walks::write_walk;
 use measures::{Judge, Measure, Pattern};
 use std::alloc::{AllocError, Global};
+use std::io;
+use std::io::{Read, Write};
+use text::{MOST_BYTES, read_input};
 
-// A longer input is not read.
-pub(crate) const MOST_BYTES: usize = 65536;
-
-// The pattern at the front of an input that is not too long, and the byte after it, which no clause can tell from private fields.
+// The pattern at the front of an input that is not too long, and the byte after it.
 fn read(input: &[u8]) -> Result<(Pattern, usize), Stop>
     ensures answer { MatchResult result (λ r. (stop_on input.now ≡ None) × (r.1 ≡ chain_start input.now)) (λ s. stop_on input.now ≡ Some s) }
     ensures recognizes { IfOk result (λ r. Recognizes input.now (⟦<Pattern as Measure>⟧.meaning r.0) (⟦<Pattern as Judge>⟧.some_of r.0) (⟦<Pattern as Judge>⟧.all_of r.0)) }
@@ -40,4 +41,13 @@ pub fn report(heap: Global, input: &[u8]) -> Result<String, AllocError>
             Ok(out)
         }
     }
+}
+
+// Reads an input and writes the report on it. Where it succeeds, and what the reader has is known, the report on all of that was written.
+pub fn answer<R: Read + Drop, W: Write>(heap: Global, reader: R, writer: &mut W) -> io::Result<()>
+    ensures { OnOk result (IfSome (R.remaining reader) (λ input. Appends (W.contents writer.old) (W.contents writer.new) (report_on input))) }
+{
+    let input = read_input(heap, reader)?;
+    let out = report(heap, &input)?;
+    writer.write_all(out.as_bytes())
 }

@@ -3,8 +3,9 @@ use super::reports::report;
 use std::process::Abort;
 use std::test::Fail;
 
-// Labels: 0 beacon, 1 waiting, 2 sound. A good chain is made of rounds: waiting, then beacon, then sound.
-// The tests of the crate `examples` and the program `board` have this pattern too. Each writes it out, which is plainer than a crate for one
+// Labels: 0 beacon, 1 waiting, 2 sound. A good chain is made of rounds, one or more: a waiting, then waitings and beacons
+// of which the last is a beacon, then a sound.
+// The tests of the crate `examples` and the program `lost_wake_up` have this pattern too. Each writes it out, which is plainer than a crate for one
 // constant: tests cannot be imported, and no crate imports a program.
 const PATTERN: [u8; 27] = [
     0x20, 5, 3, 0, 0x08, 0, 0, 0, 0, 0, 0, 0, 4, 1, 4, 2, 1, 4, 2, 1, 3, 4, 1, 4, 4, 4, 4,

@@ -10,7 +10,8 @@ use Rattle.history.specs.declared.refusals.Refusal.TheVariants.{NoSuchUnit, NoSu
 use Rattle.history.specs.Board.{Answer, own_clock, marked, Reply, run, outcome}
 use Rattle.history.specs.Events.{Event, send, receive, mark, at}
 use Rattle.history.specs.Precedence.{compared}
-use Rattle.history.specs.Runs.{Call}
+use Rattle.history.specs.Limits.{most_marks}
+use Rattle.history.specs.Runs.{Call, call}
 use Rattle.measures.specs.Words.{Letter, Word}
 use Rattle.measures.specs.Measures.{Meaning}
 use Rattle.measures.specs.Automata.{state_sets}
@@ -26,7 +27,7 @@ pub record WorkedRun : Type 0 where
   pub labels : ℕ
   pub calls : List Call
 
--- A pattern's bytes. Labels: 0 beacon, 1 waiting, 2 sound. A flow is good if it ends with a sound that follows a beacon heard while waiting.
+-- A pattern's bytes. Labels: 0 beacon, 1 waiting, 2 sound. A flow is good if it is made of rounds, one or more: a waiting, then waitings and beacons of which the last is a beacon, then a sound.
 abbrev pub wake_up_bytes : List ℕ
 wake_up_bytes =
     0x20 ∷ 5 ∷ 3 ∷ 0 ∷ 8 ∷ 0 ∷ 0 ∷ 0 ∷ 0 ∷ 0 ∷ 0 ∷ 0
@@ -59,13 +60,9 @@ words n = record {
   join = λ f g w. f w + g w;
 }
 
--- unit u does e
-abbrev pub does : ℕ → Event → Call
-does u e = record { unit = u; act = e }
-
 -- what the event at place i of unit u was told under a measure
 abbrev pub reply_to : {V : Type 0} → Meaning V → WorkedRun → ℕ → ℕ → Option (Reply V)
-reply_to m r u i = at (run (carrying m r.units) (sized m r.units r.messages 65535) r.calls).told u i
+reply_to m r u i = at (run (carrying m r.units) (sized m r.units r.messages most_marks) r.calls).told u i
 
 -- Something found of a run.
 pub data Finding : Type 0 where
@@ -121,8 +118,8 @@ module _ (r : WorkedRun) where
       × AllByRecursion (λ w. option_map (having w) (option_and_then (λ x. value_in x.answer) (reply_to (words r.labels) r u i)) ≡ Some 1) ws
   Found (order_is u i v j order) = compared (stamp_at u i) (stamp_at v j) u v ≡ order
   Found (refusal_is u e refusal) =
-      outcome (carrying (flow_count r.labels) r.units) (sized (flow_count r.labels) r.units r.messages 65535)
-      (run (carrying (flow_count r.labels) r.units) (sized (flow_count r.labels) r.units r.messages 65535) r.calls).state (does u e)
+      outcome (carrying (flow_count r.labels) r.units) (sized (flow_count r.labels) r.units r.messages most_marks)
+      (run (carrying (flow_count r.labels) r.units) (sized (flow_count r.labels) r.units r.messages most_marks) r.calls).state (call u e)
       ≡ Err refusal
 
 -- a run and what is found of it
@@ -136,7 +133,7 @@ player_waits_first = record {
     units = 2;
     messages = 2;
     labels = 3;
-    calls = does 1 (mark 1) ∷ does 1 (send 0) ∷ does 0 (receive 0) ∷ does 0 (mark 0) ∷ does 0 (send 1) ∷ does 1 (receive 1) ∷ does 1 (mark 2) ∷ [];
+    calls = call 1 (mark 1) ∷ call 1 (send 0) ∷ call 0 (receive 0) ∷ call 0 (mark 0) ∷ call 0 (send 1) ∷ call 1 (receive 1) ∷ call 1 (mark 2) ∷ [];
   };
   findings = mark_is 1 3 2 1 (1 ∷ 2 ∷ []) ∷ set_is 1 3 8 true true ∷ flows_are 1 3 1 3 3 ∷ [];
 }
@@ -147,7 +144,7 @@ lost_wake_up = record {
     units = 2;
     messages = 2;
     labels = 3;
-    calls = does 0 (mark 0) ∷ does 0 (send 1) ∷ does 1 (mark 1) ∷ does 1 (send 0) ∷ does 1 (receive 1) ∷ does 0 (receive 0) ∷ does 1 (mark 2) ∷ [];
+    calls = call 0 (mark 0) ∷ call 0 (send 1) ∷ call 1 (mark 1) ∷ call 1 (send 0) ∷ call 1 (receive 1) ∷ call 0 (receive 0) ∷ call 1 (mark 2) ∷ [];
   };
   findings = mark_is 1 3 2 3 (1 ∷ 2 ∷ []) ∷ set_is 1 3 16 false false ∷ flows_are 1 3 2 2 2 ∷ [];
 }
@@ -159,8 +156,8 @@ three_chains_into_one_mark = record {
     units = 3;
     messages = 3;
     labels = 6;
-    calls = does 0 (mark 0) ∷ does 0 (send 0) ∷ does 0 (mark 1) ∷ does 2 (mark 3) ∷ does 2 (send 1) ∷ does 1 (receive 0) ∷ does 1 (receive 1) ∷ does 1 (mark 4)
-        ∷ does 1 (mark 5) ∷ does 1 (send 2) ∷ does 0 (receive 2) ∷ does 0 (mark 2) ∷ [];
+    calls = call 0 (mark 0) ∷ call 0 (send 0) ∷ call 0 (mark 1) ∷ call 2 (mark 3) ∷ call 2 (send 1) ∷ call 1 (receive 0) ∷ call 1 (receive 1) ∷ call 1 (mark 4)
+        ∷ call 1 (mark 5) ∷ call 1 (send 2) ∷ call 0 (receive 2) ∷ call 0 (mark 2) ∷ [];
   };
   findings = mark_is 0 0 1 0 (1 ∷ 0 ∷ 0 ∷ []) ∷ mark_is 0 2 2 1 (2 ∷ 0 ∷ 0 ∷ []) ∷ mark_is 2 0 1 0 (0 ∷ 0 ∷ 1 ∷ []) ∷ mark_is 1 2 1 5 (1 ∷ 1 ∷ 1 ∷ [])
       ∷ mark_is 1 3 2 2 (1 ∷ 2 ∷ 1 ∷ []) ∷ mark_is 0 4 3 3 (3 ∷ 2 ∷ 1 ∷ [])
@@ -175,7 +172,7 @@ message_overtaken_by_an_indirect_one = record {
     units = 3;
     messages = 3;
     labels = 1;
-    calls = does 0 (mark 0) ∷ does 0 (send 0) ∷ does 0 (send 1) ∷ does 1 (receive 0) ∷ does 1 (mark 0) ∷ does 1 (send 2) ∷ does 2 (receive 1) ∷ does 2 (receive 2) ∷ does 2 (mark 0) ∷ [];
+    calls = call 0 (mark 0) ∷ call 0 (send 0) ∷ call 0 (send 1) ∷ call 1 (receive 0) ∷ call 1 (mark 0) ∷ call 1 (send 2) ∷ call 2 (receive 1) ∷ call 2 (receive 2) ∷ call 2 (mark 0) ∷ [];
   };
   findings = mark_is 2 2 1 2 (1 ∷ 1 ∷ 1 ∷ []) ∷ flows_are 2 2 1 3 3 ∷ [];
 }
@@ -186,7 +183,7 @@ two_messages_from_one_mark = record {
     units = 2;
     messages = 2;
     labels = 1;
-    calls = does 0 (mark 0) ∷ does 0 (send 0) ∷ does 0 (send 1) ∷ does 1 (receive 0) ∷ does 1 (receive 1) ∷ does 1 (mark 0) ∷ [];
+    calls = call 0 (mark 0) ∷ call 0 (send 0) ∷ call 0 (send 1) ∷ call 1 (receive 0) ∷ call 1 (receive 1) ∷ call 1 (mark 0) ∷ [];
   };
   findings = mark_is 1 2 1 1 (1 ∷ 1 ∷ []) ∷ flows_are 1 2 1 2 2 ∷ [];
 }
@@ -197,7 +194,7 @@ unit_hears_itself = record {
     units = 1;
     messages = 1;
     labels = 1;
-    calls = does 0 (mark 0) ∷ does 0 (send 0) ∷ does 0 (mark 0) ∷ does 0 (receive 0) ∷ does 0 (mark 0) ∷ [];
+    calls = call 0 (mark 0) ∷ call 0 (send 0) ∷ call 0 (mark 0) ∷ call 0 (receive 0) ∷ call 0 (mark 0) ∷ [];
   };
   findings = mark_is 0 4 3 1 (3 ∷ []) ∷ flows_are 0 4 1 3 3 ∷ [];
 }

@@ -38,7 +38,7 @@ struct Memory {
     posts: [Post; 3],
 }
 
-// Memory that no board has written.
+// Memory full of values that no board has put there.
 const WRITTEN_BEFORE: Memory = Memory {
     clocks: [7; 12],
     flags: [true; 12],

@@ -1,7 +1,7 @@
 // Messages that move on, stamps that are compared, rows that are copied and merged, and what marks are worth.
 use super::reading::PATTERN;
 use bitset::positions;
-use causality::{Cell, Stamp, compare, merge_cell, merge_rows};
+use causality::{Cell, Clock, Stamp, compare, merge_cell, merge_rows};
 use grid::{Grid, GridError};
 use history::{Handling, Post};
 use measures::{Ends, FlowCount, Pattern, Span, mark_value, merge_value, merge_values};
@@ -23,7 +23,7 @@ fn a_message_is_sent_once_and_received_once(rt: HostRuntime) {
 }
 
 // The number of the answer for the stamps p of unit i and q of unit j, or the refusal's.
-fn compared(p: &[u16], q: &[u16], i: usize, j: usize) -> Result<u8, u8> {
+fn compared(p: &[Clock], q: &[Clock], i: usize, j: usize) -> Result<u8, u8> {
     let p = Stamp { clocks: p, unit: i };
     let q = Stamp { clocks: q, unit: j };
     compare(p, q).map(u8::from).map_err(u8::from)

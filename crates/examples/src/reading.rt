@@ -1,7 +1,7 @@
 // What the readers of patterns and relabellings refuse, with the place, and what they take.
 use measures::{Fault, Pattern, Relabelling};
 
-// Labels: 0 beacon, 1 waiting, 2 sound. A chain is good if it ends with a sound that follows a beacon heard while waiting.
+// Labels: 0 beacon, 1 waiting, 2 sound. A chain is good if it is made of rounds, one or more: a waiting, then waitings and beacons of which the last is a beacon, then a sound.
 pub const PATTERN: [u8; 27] = [
     0x20, 5, 3, 0, 0x08, 0, 0, 0, 0, 0, 0, 0, 4, 1, 4, 2, 1, 4, 2, 1, 3, 4, 1, 4, 4, 4, 4,
 ];

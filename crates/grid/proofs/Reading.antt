@@ -1,10 +1,9 @@
 -- What stands where, once a row is written.
-use Rattle.std.proofs.Common.{◌≡◌, ℕ, ◌+◌, ◌*◌, ◌<◌, ◌≤◌, ◌⊎◌, List, length, get_or, inl, inr, arith}
+use Rattle.std.proofs.Common.{◌≡◌, ℕ, ◌+◌, ◌*◌, ◌<◌, ◌≤◌, ◌⊎◌, List, length, get_or, arith}
 use Rattle.std.proofs.lemmas.List.{places}
 use Rattle.std.proofs.lemmas.List.Edits.{length-paste}
-use Rattle.std.proofs.lemmas.Bool.{cases_lt}
 use Rattle.grid.specs.Rows.{with_row}
-use Rattle.grid.proofs.Cells.{row_fits, untouched}
+use Rattle.grid.proofs.Cells.{untouched}
 
 module _ {X : Type 0} (xs ys : List X) (n r : ℕ) where
   pub with_row_length : r * n + n ≤ length xs → n ≤ length ys → length (with_row xs n r ys) ≡ length xs
@@ -15,10 +14,3 @@ module _ {X : Type 0} (xs ys : List X) (n r : ℕ) where
 
   pub with_row_outside : (k : ℕ) (d : X) → r * n + n ≤ length xs → n ≤ length ys → (k < r * n) ⊎ (r * n + n ≤ k) → get_or (with_row xs n r ys) k d ≡ get_or xs k d
   with_row_outside = untouched xs ys (r * n) n
-
-  pub with_row_other : (q j : ℕ) (d : X) → r * n + n ≤ length xs → n ≤ length ys → (q ≡ r → ⊥) → j < n → get_or (with_row xs n r ys) (q * n + j) d ≡ get_or xs (q * n + j) d
-  with_row_other q j d fits long ne h =
-      elim (cases_lt q r) [
-        | inl l ↦ with_row_outside (q * n + j) d fits long (inl (omega (arith, row_fits q r n l)))
-        | inr g ↦ with_row_outside (q * n + j) d fits long (inr (omega (arith, row_fits r q n (omega arith))))
-      ]

@@ -1,5 +1,5 @@
 -- A row that was written, cell by cell or whole: what stands in it, and that nothing beside it changed.
-use Rattle.std.proofs.Common.{◌≡◌, ℕ, ◌+◌, ◌*◌, ◌<◌, ◌≤◌, ◌⊎◌, cond, eqb, List, length, get_or, replicate, set, refl, ◌∙◌, inl, inr, ⊎_elim, arith, length-drop, length-take, rules}
+use Rattle.std.proofs.Common.{◌≡◌, ℕ, ◌+◌, ◌*◌, ◌<◌, ◌≤◌, ◌⊎◌, cond, eqb, List, length, get_or, replicate, set, ◌∙◌, inl, inr, ⊎_elim, arith, length-drop, length-take, rules}
 use Rattle.std.proofs.lemmas.Grind.{common_steps, get_or-set_at}
 use Rattle.std.proofs.lemmas.List.{places, length-replicate, get_or-set_other}
 use Rattle.std.proofs.lemmas.List.FromFn.{length-map-range_with_len, get_or-map-range_with_len}
@@ -57,7 +57,3 @@ module _ {X : Type 0} (n t : ℕ) (d : X) (old : List X) (inside : t * n + n ≤
 -- a row written twice, the second time from what the first left
 pub twice : {X : Type 0} {n t : ℕ} {d : X} {f g : ℕ → X} {old mid new : List X} → RowIs n t d f old mid → RowIs n t d g mid new → RowIs n t d g old new
 twice a b = record { same_length = b.same_length ∙ a.same_length; here = b.here; outside = λ i o. b.outside i o ∙ a.outside i o }
-
--- a row that was left alone
-pub left_alone : {X : Type 0} (n t : ℕ) (d : X) (old : List X) → RowIs n t d (λ j. get_or old (t * n + j) d) old old
-left_alone n t d old = record { same_length = refl; here = λ j l. refl; outside = λ i o. refl }

@@ -36,7 +36,7 @@ pub record LieWithin (rows : RowPair) (cells : ℕ) : Type 0 where
 abbrev pub with_cells : {X : Type 0} → List X → RowPair → (ℕ → X) → ℕ → List X
 with_cells xs rows f k = paste xs (rows.to * rows.width) (tabled f rows.width) k
 
--- The grid is as wide as before, and its cells are still the same lender's.
-pub record SameMemory {T : Type 0} (old new : Grid T) : Type 0 where
+-- The grid is as wide as before, and its cells are lent by the same lender; what they hold may have changed.
+pub record SameLoan {T : Type 0} (old new : Grid T) : Type 0 where
   pub width : new.width ≡ old.width
   pub lender : new.cells.ghost_name ≡ old.cells.ghost_name

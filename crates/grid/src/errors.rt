@@ -1,7 +1,7 @@
 // Why a call on a grid, or on several, is refused.
 use thiserror::Error;
 
-// What a call asked for that is not there.
+// A row or a cell that is not there, or rows of different widths.
 #[derive(Clone, Copy, PartialEq, Eq, Debug, Error)]
 pub enum GridError {
     #[error("a row does not lie within the cells")]

@@ -1,4 +1,4 @@
-// Rows of cells, one after another, in memory that the caller lends.
+// Rows of cells, one after another, in memory that the caller lends. Stands on nothing here.
 // One grid type serves clocks, flags and values of every kind; row r is the part that begins at cell r * width.
 // A call for a row or a column that is not there is refused, or answers none, and changes nothing.
 #![tactic(auto)]
@@ -6,7 +6,7 @@
 ghost use Rattle.std.specs.Prelude.{◌≡◌, ◌+◌, ◌*◌, ◌≤◌, ◌&&◌, ◌++◌, drop, length, replicate, if◌then◌else◌, IfOk, is_ok, IsTrue, false, MatchResult, nat_lt, slice_get, slice_index_or, slice_set};
 ghost use Rattle.grid.specs.declared.errors.GridError.TheVariants.{NoSuchRow, NoSuchColumn};
 ghost use Rattle.grid.specs.Rows.{row as row_of, with_row};
-ghost use Rattle.grid.specs.Grids.{ask, has_first_rows, has_row, has_rows, row_pair, LieWithin, SameMemory};
+ghost use Rattle.grid.specs.Grids.{ask, has_first_rows, has_row, has_rows, row_pair, LieWithin, SameLoan};
 
 mod errors;
 
@@ -50,7 +50,7 @@ impl<T: Copy> Grid<'_, T> {
         start <= self.cells.len() && self.width <= self.cells.len() - start
     }
 
-    // Two rows that are both there. Callers have two numbers: a pair before it is known to be there is no plainer.
+    // Two rows, or the refusal of the first that is not there.
     pub fn row_pair(&self, from: usize, to: usize) -> Result<RowPair, GridError>
         ensures answer { result ≡ ask (has_rows self.now from to) NoSuchRow (Ok (row_pair self.now from to)) }
         ensures inside { IfOk result (λ rows. LieWithin rows (length self.now.cells.now)) }
@@ -90,7 +90,7 @@ impl<T: Copy> Grid<'_, T> {
     pub fn set_cell(&mut self, row: usize, column: usize, v: T) -> Result<(), GridError>
         ensures answer { result ≡ ask (has_row self.old row) NoSuchRow (ask (nat_lt column self.old.width) NoSuchColumn (Ok tt)) }
         ensures cells { self.new.cells.now ≡ (if is_ok result then slice_set self.old.cells.now (row * self.old.width + column) v else self.old.cells.now) }
-        ensures memory { SameMemory self.old self.new }
+        ensures loan { SameLoan self.old self.new }
     {
         let start = self.start_of(row)?;
         if column >= self.width {
@@ -104,7 +104,7 @@ impl<T: Copy> Grid<'_, T> {
     pub fn fill_row(&mut self, row: usize, v: T) -> Result<(), GridError>
         ensures answer { result ≡ ask (has_row self.old row) NoSuchRow (Ok tt) }
         ensures cells { self.new.cells.now ≡ (if is_ok result then with_row self.old.cells.now self.old.width row (replicate self.old.width v) else self.old.cells.now) }
-        ensures memory { SameMemory self.old self.new }
+        ensures loan { SameLoan self.old self.new }
     {
         let start = self.start_of(row)?;
         let end = start + self.width;
@@ -116,7 +116,7 @@ impl<T: Copy> Grid<'_, T> {
     pub fn fill_rows(&mut self, rows: usize, v: T) -> Result<(), GridError>
         ensures answer { result ≡ ask (has_first_rows self.old rows) NoSuchRow (Ok tt) }
         ensures cells { self.new.cells.now ≡ (if is_ok result then replicate (rows * self.old.width) v ++ drop (rows * self.old.width) self.old.cells.now else self.old.cells.now) }
-        ensures memory { SameMemory self.old self.new }
+        ensures loan { SameLoan self.old self.new }
     {
         let Some(count) = rows.checked_mul(self.width) else {
             return Err(GridError::NoSuchRow);
@@ -132,7 +132,7 @@ impl<T: Copy> Grid<'_, T> {
     pub fn copy_row(&mut self, from: usize, to: usize) -> Result<(), GridError>
         ensures answer { result ≡ ask (has_rows self.old from to) NoSuchRow (Ok tt) }
         ensures cells { self.new.cells.now ≡ (if is_ok result then with_row self.old.cells.now self.old.width to (row_of self.old.cells.now self.old.width from) else self.old.cells.now) }
-        ensures memory { SameMemory self.old self.new }
+        ensures loan { SameLoan self.old self.new }
     {
         let rows = self.row_pair(from, to)?;
         copy(self.cells, rows);

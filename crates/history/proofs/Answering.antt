@@ -8,7 +8,7 @@ use Rattle.history.specs.HappenedBefore.{Immediate}
 use Rattle.history.specs.Rows.{Payload, Cell}
 use Rattle.history.specs.Runs.{Size, Call}
 use Rattle.history.specs.Board.{own_clock, run}
-use Rattle.history.specs.Laws.{happened, Answered, MarksAnswered, MessagesAnswered}
+use Rattle.history.specs.Laws.{happened, Answered, MarksAnswered, MessagesAnswered, message_told}
 use Rattle.history.proofs.RowOf.{Row}
 use Rattle.history.proofs.Holds.{Once}
 use Rattle.history.proofs.Preceding.{top_immediate, immediate_top}
@@ -61,7 +61,7 @@ module _ {V : Type 0} (M : Payload V) (z : Size) (cs : List Call) (u i : ℕ) wh
   told_clock e p q t g = let c = (rows_true M (happened M z cs) (sound_run M z cs).once g).mine in grind arith
 
   pub moved_told : (m : ℕ) → (happened M z cs u i ≡ Some (send m)) ⊎ (happened M z cs u i ≡ Some (receive m))
-      → (stamp : ℕ → ℕ) × (at (run M z cs).told u i ≡ Some (record { answer = own_clock (marks (happened M z cs) u i); stamp = stamp }))
+      → (stamp : ℕ → ℕ) × (at (run M z cs).told u i ≡ Some (record { answer = message_told (happened M z cs) u i; stamp = stamp }))
   moved_told m (inl e) = let (r, t, d, g, q) = (said_run M z cs).says u i (send m) e in let c = told_clock (send m) e refl t g in ((λ v. (t v).clock), grind arith)
   moved_told m (inr e) = let (r, t, d, g, q) = (said_run M z cs).says u i (receive m) e in let c = told_clock (receive m) e refl t g in ((λ v. (t v).clock), grind arith)
 

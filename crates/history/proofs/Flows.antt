@@ -2,10 +2,10 @@
 use Rattle.std.proofs.Common.{◌≡◌, ℕ, List, [], ◌∷◌, ◌++◌, map, reverse, sym, refl, ap, ◌∙◌, subst, arith}
 use mathlib.Core.List.{reverse_aux, reverse-cons}
 use Rattle.std.proofs.lemmas.List.{reverse-reverse}
-use Rattle.history.specs.Events.{Events}
+use Rattle.history.specs.Events.{Events, Place}
 use Rattle.history.specs.HappenedBefore.{Immediate, First}
 use Rattle.history.specs.Counting.{Among, Exactly}
-use Rattle.history.specs.Flows.{Place, Opens, Linked, Ends, Longest}
+use Rattle.history.specs.Flows.{Opens, Linked, Ends, Longest}
 use Rattle.history.proofs.Lists.{among_map, among_unmap, distinct_map}
 
 -- a longest flow ending at the mark (u, i), with its last mark in front

@@ -1,23 +1,18 @@
 -- A run's history depends on nothing but its logs.
-use Rattle.std.proofs.Common.{◌≡◌, ℕ, ◌⊎◌, List, [], ◌∷◌, ◌++◌, map, sym, refl, ap, ◌∙◌, ⊎_elim, arith}
+use Rattle.std.proofs.Common.{◌≡◌, ℕ, List, [], ◌∷◌, ◌++◌, map, sym, refl, ap, ◌∙◌, ⊎_elim, arith}
 use mathlib.Core.Path.{fun_ext}
-use Rattle.history.specs.declared.messages.Post.{Post}
-use Rattle.history.specs.Events.{Logs, at, Sent}
-use Rattle.history.specs.Messages.{Stated}
+use Rattle.history.specs.Events.{Logs, at}
 use Rattle.history.specs.Rows.{Payload}
 use Rattle.history.specs.Runs.{Size, Call, SameByUnit}
 use Rattle.history.specs.Board.{State, History, run, accepted}
-use Rattle.history.specs.Laws.{Alike, OrderFree, RunsOrderFree}
+use Rattle.history.specs.Laws.{SameHistory, OrderFree, RunsOrderFree}
 use Rattle.history.proofs.Unique.{row_one}
+use Rattle.history.proofs.Posts.{stated_one, sent_or_not}
 use Rattle.history.proofs.Sound.{Sound}
 use Rattle.history.proofs.Runs.{sound_run, run_push}
 use Rattle.history.proofs.Outcomes.{outcomes_told}
 use Rattle.history.proofs.Told.{said_run, same_told}
 use Rattle.history.proofs.Accepting.{accepts_runs}
-
--- a stated message was sent or not
-sent_or_not : (logs : Logs) (m : ℕ) (p : Post) → Stated (at logs) m p → Sent (at logs) m ⊎ (Sent (at logs) m → ⊥)
-sent_or_not logs m p s = grind arith
 
 module _ {V : Type 0} (M : Payload V) (z : Size) where
   module _ (logs : Logs) (s t : State V) (a : Sound M z s logs) (b : Sound M z t logs) where
@@ -28,10 +23,10 @@ module _ {V : Type 0} (M : Payload V) (z : Size) where
     same_message_rows = fun_ext (λ m. ⊎_elim
         (λ p. row_one M (at logs) a.once (a.sent_row m p.0 p.1 p.2) (b.sent_row m p.0 p.1 p.2))
         (λ n. a.unsent_row m n ∙ sym (b.unsent_row m n))
-        (sent_or_not logs m (s.posts m) (a.posts_are m)))
+        (sent_or_not (at logs) m (s.posts m) (a.posts_are m)))
 
     pub same_state : s ≡ t
-    same_state = grind (arith, same_rows, same_message_rows)
+    same_state = let posts : s.posts ≡ t.posts = fun_ext (λ m. stated_one (at logs) m (s.posts m) (t.posts m) (a.posts_are m) (b.posts_are m)) in grind (arith, same_rows, same_message_rows)
 
   -- the same accepted calls unit by unit: the same history
   pub same_history : (cs ds : List Call) → ((u : ℕ) → (run M z cs).log u ≡ (run M z ds).log u) → run M z cs ≡ run M z ds
@@ -49,7 +44,7 @@ module _ {V : Type 0} (M : Payload V) (z : Size) where
       built : (g h : History V) → g.state ≡ h.state → g.log ≡ h.log → g.told ≡ h.told → g ≡ h
       built g h x y w = grind arith
 
-  alike : (g h : History V) → g ≡ h → Alike g h
+  alike : (g h : History V) → g ≡ h → SameHistory g h
   alike g h e = grind arith
 
   pub order_free : (cs ds : List Call) → SameByUnit (accepted M z cs) (accepted M z ds) → OrderFree M z cs ds

@@ -1,11 +1,11 @@
 -- The state of a message as the logs grow.
-use Rattle.std.proofs.Common.{◌≡◌, ℕ, ◌↔◌, length, Some, None, arith}
+use Rattle.std.proofs.Common.{◌≡◌, ℕ, ◌⊎◌, ◌↔◌, true, length, Some, None, arith}
 use Rattle.std.specs.Result.{result_err, result_unwrap_or}
 use Rattle.history.specs.declared.messages.Post.{Post}
 use Rattle.history.specs.declared.messages.Post.TheVariants.{Unsent, OnItsWay, Delivered}
 use Rattle.history.specs.declared.messages.Handling.TheVariants.{Sending, Receiving}
 use Rattle.history.specs.Events.{Event, Events, Logs, at, send, receive, Sent, Received}
-use Rattle.history.specs.Messages.{moved, Stated}
+use Rattle.history.specs.Messages.{moved, travels, Stated}
 use Rattle.history.specs.Runs.{grown}
 use Rattle.history.proofs.Logs.{grown_here, grown_keeps, grown_cases}
 
@@ -15,6 +15,18 @@ may_send ev m p s = grind arith
 
 pub may_receive : (ev : Events) (m : ℕ) (p : Post) → Stated ev m p → (result_err (moved p Receiving) ≡ None) ↔ (Sent ev m × (Received ev m → ⊥))
 may_receive ev m p s = grind arith
+
+-- a message is on its way exactly when it was sent and not received
+pub travels_stated : (ev : Events) (m : ℕ) (p : Post) → Stated ev m p → (travels p ≡ true) ↔ (Sent ev m × (Received ev m → ⊥))
+travels_stated ev m p s = grind arith
+
+-- the events say one state of a message
+pub stated_one : (ev : Events) (m : ℕ) (p q : Post) → Stated ev m p → Stated ev m q → p ≡ q
+stated_one ev m p q s t = grind arith
+
+-- a stated message was sent or not
+pub sent_or_not : (ev : Events) (m : ℕ) (p : Post) → Stated ev m p → Sent ev m ⊎ (Sent ev m → ⊥)
+sent_or_not ev m p s = grind arith
 
 module _ (logs : Logs) (u : ℕ) (x : Event) where
   keeps : (e : Event) → (w i : ℕ) × (at logs w i ≡ Some e) → (w i : ℕ) × (at (grown logs u x) w i ≡ Some e)

@@ -91,6 +91,11 @@ module _ {V : Type 0} (M : Payload V) where
     outcomes_from s [] = []
     outcomes_from s (c ∷ cs) = outcome s c ∷ outcomes_from (next s c) cs
 
+    -- the state after a list of calls, taken or refused, from a state on
+    abbrev pub state_from : State V → List Call → State V
+    state_from s [] = s
+    state_from s (c ∷ cs) = state_from (next s c) cs
+
     -- the outcomes of a list of calls handed to a new board
     abbrev pub outcomes : List Call → List (Result (Answer V) Refusal)
     outcomes cs = outcomes_from new_state cs

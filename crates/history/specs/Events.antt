@@ -17,6 +17,10 @@ Logs = ℕ → List Event
 abbrev pub Events : Type 0
 Events = ℕ → ℕ → Option Event
 
+-- A place of the logs: a unit, and the number of its events that are older.
+abbrev pub Place : Type 0
+Place = ℕ × ℕ
+
 -- what stands at place i of unit u
 abbrev pub at : {A : Type 0} → (ℕ → List A) → ℕ → ℕ → Option A
 at logs u i = slice_get (logs u) i

@@ -1,12 +1,8 @@
 -- Longest flows and their words.
 use Rattle.std.specs.Prelude.{◌≡◌, ℕ, List, [], ◌∷◌, map, Some, None, Option}
-use Rattle.history.specs.Events.{Event, Events, send, receive, mark}
+use Rattle.history.specs.Events.{Event, Events, Place, send, receive, mark}
 use Rattle.history.specs.HappenedBefore.{Immediate, First}
 use Rattle.history.specs.Words.{Letter, Word, letter_of}
-
--- A place of the logs: a unit, and the number of its events that are older.
-abbrev pub Place : Type 0
-Place = ℕ × ℕ
 
 -- the list begins with a mark that has no mark before it
 abbrev pub Opens : Events → List Place → Type 0
@@ -26,15 +22,16 @@ Ends u i (x ∷ []) = x ≡ (u, i)
 Ends u i (x ∷ (y ∷ f)) = Ends u i (y ∷ f)
 
 -- A longest flow ending at the mark at place i of unit u: a list of marks whose first has no mark before it, whose last is that
--- mark, and whose neighbours are each immediate predecessor and successor.
+-- mark, and whose neighbours are each immediate predecessor and successor. Longest: nothing can be put before it or between. One mark can have
+-- longest flows of several lengths.
 abbrev pub Longest : Events → ℕ → ℕ → List Place → Type 0
 Longest ev u i f = Opens ev f × Linked ev f × Ends u i f
 
--- the letter of what unit u did; only marks have one of their own
+-- the letter of what unit u did: of a mark its own, of anything else 0, which no flow meets
 abbrev pub letter : ℕ → Option Event → Letter
-letter u None = 0
-letter u (Some (send m)) = 0
-letter u (Some (receive m)) = 0
+letter u None = letter_of u 0
+letter u (Some (send m)) = letter_of u 0
+letter u (Some (receive m)) = letter_of u 0
 letter u (Some (mark l)) = letter_of u l
 
 -- the letter of what stands at a place

@@ -9,7 +9,7 @@ use Rattle.history.specs.HappenedBefore.{Immediate}
 use Rattle.history.specs.Stamps.{Stamp}
 use Rattle.history.specs.Messages.{Stated}
 use Rattle.history.specs.Rows.{Payload}
-use Rattle.history.specs.Runs.{Size, Call, Possible, Run, by_unit, SameByUnit}
+use Rattle.history.specs.Runs.{Size, Call, Possible, Run, by_unit, events_in, SameByUnit}
 use Rattle.history.specs.Board.{State, Answer, History, own_clock, marked, refusal, next, outcome, outcomes, run, accepted}
 use Rattle.history.specs.Precedence.{Ordered, compared}
 
@@ -36,11 +36,15 @@ abbrev pub MarksAnswered : Type 0 → Type 0
 MarksAnswered V =
     (M : Payload V) (z : Size) (cs : List Call) (u i l : ℕ) → happened M z cs u i ≡ Some (mark l) → Answered M z cs u i
 
+-- what a send or a receipt at place i of unit u is told: the number of its unit's marks so far
+abbrev pub message_told : {V : Type 0} → Events → ℕ → ℕ → Answer V
+message_told ev u i = own_clock (marks ev u i)
+
 -- Each accepted send or receipt was told the number of its unit's marks so far.
 abbrev pub MessagesAnswered : Type 0 → Type 0
 MessagesAnswered V =
     (M : Payload V) (z : Size) (cs : List Call) (u i m : ℕ) → (happened M z cs u i ≡ Some (send m)) ⊎ (happened M z cs u i ≡ Some (receive m))
-    → (stamp : ℕ → ℕ) × (at (run M z cs).told u i ≡ Some (record { answer = own_clock (marks (happened M z cs) u i); stamp = stamp }))
+    → (stamp : ℕ → ℕ) × (at (run M z cs).told u i ≡ Some (record { answer = message_told (happened M z cs) u i; stamp = stamp }))
 
 -- the answers to the accepted calls of unit u, from the outcomes of a list of calls
 abbrev pub answers_of : {V : Type 0} → ℕ → List Call → List (Result (Answer V) Refusal) → List (Answer V)
@@ -53,8 +57,8 @@ answers_of u (c ∷ cs) (Err e ∷ os) = answers_of u cs os
 abbrev pub OutcomesTold : Type 0 → Type 0
 OutcomesTold V = (M : Payload V) (z : Size) (cs : List Call) (u : ℕ) → map (λ r. r.answer) ((run M z cs).told u) ≡ answers_of u cs (outcomes M z cs)
 
--- Two histories stand alike: all rows of units and of messages are equal, what became of the messages, and each unit's replies.
-pub record Alike {V : Type 0} (g h : History V) : Type 0 where
+-- Two histories agree: all rows of units and of messages are equal, what became of the messages, and each unit's replies.
+pub record SameHistory {V : Type 0} (g h : History V) : Type 0 where
   pub rows : (u j : ℕ) → g.state.rows u j ≡ h.state.rows u j
   pub message_rows : (m j : ℕ) → g.state.message_rows m j ≡ h.state.message_rows m j
   pub posts : (m : ℕ) → g.state.posts m ≡ h.state.posts m
@@ -64,9 +68,9 @@ pub record Alike {V : Type 0} (g h : History V) : Type 0 where
 -- alike; and any one more call, the same for both, is answered alike and leaves them alike.
 pub record OrderFree {V : Type 0} (M : Payload V) (z : Size) (cs ds : List Call) : Type 0 where
   pub answers : (u : ℕ) → answers_of u cs (outcomes M z cs) ≡ answers_of u ds (outcomes M z ds)
-  pub alike : Alike (run M z cs) (run M z ds)
+  pub alike : SameHistory (run M z cs) (run M z ds)
   pub one_more : (c : Call) → outcome M z (run M z cs).state c ≡ outcome M z (run M z ds).state c
-  pub one_more_alike : (c : Call) → Alike (run M z (cs ++ c ∷ [])) (run M z (ds ++ c ∷ []))
+  pub one_more_alike : (c : Call) → SameHistory (run M z (cs ++ c ∷ [])) (run M z (ds ++ c ∷ []))
 
 -- This is so for any two lists whose accepted calls are the same unit by unit.
 abbrev pub RunsOrderFree : Type 0 → Type 0
@@ -94,9 +98,9 @@ AcceptedAreRuns V = (M : Payload V) (z : Size) (cs : List Call) → AcceptsRuns 
 -- The stamps of two marks of any run decide their order: the answer is o exactly when the marks stand so.
 abbrev pub StampsDecide : Type 0
 StampsDecide =
-    (z : Size) (cs : List Call) → Run z cs → (u i v j : ℕ) → IsMark (at (by_unit cs)) u i → IsMark (at (by_unit cs)) v j
-    → (p q : ℕ → ℕ) → Stamp (at (by_unit cs)) u i p → Stamp (at (by_unit cs)) v j q
-    → (o : Precedence) → (compared p q u v ≡ o) ↔ Ordered (at (by_unit cs)) u i v j o
+    (z : Size) (cs : List Call) → Run z cs → (u i v j : ℕ) → IsMark (events_in cs) u i → IsMark (events_in cs) v j
+    → (p q : ℕ → ℕ) → Stamp (events_in cs) u i p → Stamp (events_in cs) v j q
+    → (o : Precedence) → (compared p q u v ≡ o) ↔ Ordered (events_in cs) u i v j o
 
 -- Two states differ in nothing but what their cells carry.
 pub record SameBare {V W : Type 0} (s : State V) (t : State W) : Type 0 where

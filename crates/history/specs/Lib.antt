@@ -4,6 +4,7 @@ pub mod Events
 pub mod Flows
 pub mod HappenedBefore
 pub mod Laws
+pub mod Limits
 pub mod Marks
 pub mod Messages
 pub mod Precedence

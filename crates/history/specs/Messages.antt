@@ -1,5 +1,5 @@
 -- What becomes of a message.
-use Rattle.std.specs.Prelude.{ℕ, Ok, Err, Result}
+use Rattle.std.specs.Prelude.{ℕ, Bool, true, false, Ok, Err, Result}
 use Rattle.history.specs.declared.messages.Post.{Post}
 use Rattle.history.specs.declared.messages.Post.TheVariants.{Unsent, OnItsWay, Delivered}
 use Rattle.history.specs.declared.messages.Handling.{Handling}
@@ -22,6 +22,12 @@ moved Delivered Sending = Err SentBefore
 moved Unsent Receiving = Err NeverSent
 moved OnItsWay Receiving = Ok Delivered
 moved Delivered Receiving = Err ReceivedBefore
+
+-- Whether a message in this state is on its way: it was sent, and not received.
+abbrev pub travels : Post → Bool
+travels Unsent = false
+travels OnItsWay = true
+travels Delivered = false
 
 -- The state of message m is what the events say.
 abbrev pub Stated : Events → ℕ → Post → Type 0

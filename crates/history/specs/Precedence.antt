@@ -8,7 +8,7 @@ use Rattle.history.specs.Events.{Events}
 use Rattle.history.specs.HappenedBefore.{Before, Here}
 use Rattle.history.specs.Refusals.{ask}
 use Rattle.history.specs.Board.{answered}
-use Rattle.history.specs.Runs.{most_units}
+use Rattle.history.specs.Limits.{most_units}
 
 -- The number of each answer.
 abbrev pub rank : Precedence → ℕ

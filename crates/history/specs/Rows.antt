@@ -43,7 +43,8 @@ module _ {V : Type 0} (start : V) where
   abbrev pub merge_row : (ℕ → Cell V) → (ℕ → Cell V) → ℕ → Cell V
   merge_row a b j = merged_cell (a j) (b j)
 
--- A row after its unit u made a mark with label l: the own clock grows by 1, only the own flag is yes, all other values are start.
+-- A row after its unit u made a mark with label l: the own clock grows by 1, only the own flag is yes, the own value
+-- is what the mark makes, and all other values are start.
 abbrev pub mark_row : {V : Type 0} → Payload V → ℕ → ℕ → (ℕ → Cell V) → ℕ → Cell V
 mark_row M u l r j =
     if j == u

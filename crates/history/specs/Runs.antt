@@ -1,12 +1,8 @@
--- What a real run can do, told by the events alone.
+-- Calls, the size of a board, and what a real run can do, told by the events alone.
 use Rattle.std.specs.Prelude.{◌≡◌, ℕ, ◌<◌, Bool, true, if◌then◌else◌, List, [], ◌∷◌, ◌++◌, length, ◌==◌}
-use Rattle.history.specs.Events.{Event, send, receive, mark, Logs, at, Sent, Received}
+use Rattle.history.specs.Events.{Event, send, receive, mark, Events, Logs, at, Sent, Received}
 use Rattle.history.specs.Marks.{marks}
 use Rattle.history.specs.Rows.{put}
-
--- A board has at most 16 units.
-abbrev pub most_units : ℕ
-most_units = 16
 
 -- The size of a board: its units and messages, which unit may mark with which label, and how many marks a unit can make.
 pub record Size : Type 0 where
@@ -19,6 +15,10 @@ pub record Size : Type 0 where
 pub record Call : Type 0 where
   pub unit : ℕ
   pub act : Event
+
+-- a call of unit u
+abbrev pub call : ℕ → Event → Call
+call u e = record { unit = u; act = e }
 
 -- no unit has done anything
 abbrev pub silence : {A : Type 0} → ℕ → List A
@@ -48,6 +48,10 @@ Run z cs = Continues z silence cs
 abbrev pub by_unit : List Call → Logs
 by_unit [] u = []
 by_unit (c ∷ cs) u = if u == c.unit then c.act ∷ by_unit cs u else by_unit cs u
+
+-- what happened in a list of calls
+abbrev pub events_in : List Call → Events
+events_in cs = at (by_unit cs)
 
 -- Two lists of calls are the same unit by unit if each unit's events in them are equal one by one, message numbers and labels included.
 abbrev pub SameByUnit : List Call → List Call → Type 0

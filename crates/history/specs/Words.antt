@@ -12,3 +12,7 @@ Word = List Letter
 -- the letter of a mark of unit u with label l
 abbrev pub letter_of : ℕ → ℕ → Letter
 letter_of u l = l
+
+-- the label of a letter
+abbrev pub label_of : Letter → ℕ
+label_of l = l

@@ -1,4 +1,6 @@
-// What the units of a handset did and in which causal order, the rules by which a board follows it, and the law over whole runs.
+// What the units of a handset did and in which causal order, the rules by which a board follows it, and the law over runs. Nearly all of it is in
+// specs/ and proofs/; in code stand only the types that the rules name: the states of a message, the refusals and the orders of two marks.
+// Stands on `bitset`.
 #![tactic(auto)]
 
 pub mod laws;
@@ -9,6 +11,3 @@ pub mod refusals;
 pub use messages::{Handling, Post};
 pub use precedence::Precedence;
 pub use refusals::Refusal;
-
-// A board has at most so many units.
-pub const MAX_UNITS: usize = 16;

@@ -1,6 +1,6 @@
 // What becomes of a message.
 ghost use Rattle.std.specs.Prelude.{◌≡◌};
-ghost use Rattle.history.specs.Messages.{code, moved};
+ghost use Rattle.history.specs.Messages.{code, moved, travels};
 
 use super::refusals::Refusal;
 
@@ -44,5 +44,12 @@ impl Post {
             (Post::Unsent, Handling::Receiving) => Err(Refusal::NeverSent),
             (Post::Delivered, Handling::Receiving) => Err(Refusal::ReceivedBefore),
         }
+    }
+
+    // Whether the message is on its way.
+    pub fn travels(self) -> bool
+        ensures { result ≡ travels self }
+    {
+        matches!(self, Post::OnItsWay)
     }
 }

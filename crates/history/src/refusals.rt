@@ -4,12 +4,12 @@ ghost use Rattle.history.specs.Refusals.{number};
 
 use thiserror::Error;
 
-// The answers no, each with the number by which reports and documents name it.
+// The refusals, each with its number.
 #[derive(Clone, Copy, PartialEq, Eq, Debug, Error)]
 pub enum Refusal {
-    #[error("the number of units is not from 1 to 16")]
+    #[error("a board cannot have so many units, or none")]
     UnitCount = 1,
-    #[error("the number of messages is above 255")]
+    #[error("a board cannot have so many messages")]
     MessageCount = 2,
     #[error("a memory is too short for the board")]
     MemoryTooShort = 3,
@@ -27,7 +27,7 @@ pub enum Refusal {
     ReceivedBefore = 9,
     #[error("the unit's own clock has reached its limit")]
     ClockFull = 10,
-    #[error("the stamps are not equally long, or not from 1 to 16 long")]
+    #[error("the stamps are not equally long, or not as long as a board has units")]
     StampLength = 12,
 }
 

@@ -6,9 +6,11 @@ use Rattle.history.specs.declared.refusals.Refusal.{Refusal}
 use Rattle.history.specs.declared.refusals.Refusal.TheVariants.{NoSuchLabel}
 use Rattle.history.specs.Events.{receive, mark}
 use Rattle.history.specs.Rows.{Payload, nothing}
-use Rattle.history.specs.Runs.{Size}
+use Rattle.history.specs.Runs.{Size, call}
 use Rattle.history.specs.Board.{refusal}
-use Rattle.causality.specs.Boards.{Memory, Follows, call, unit_refusal, handling_refusal, most_marks, clock_told}
+use Rattle.history.specs.Limits.{most_marks}
+use Rattle.causality.specs.Boards.{Memory, Follows}
+use Rattle.causality.specs.Calls.{unit_refusal, handling_refusal, clock_told}
 use Rattle.causality.proofs.Following.{taken_outcome, refused_follows, short_follows}
 use Rattle.causality.proofs.Leaving.{each_shows}
 use Rattle.measures.specs.Measures.{Meaning}

@@ -4,7 +4,7 @@ use Rattle.std.specs.List.{slice_get}
 use Rattle.std.specs.Option.{option_map}
 use Rattle.std.specs.Prelude.{slice_index, slice_index_or}
 use Rattle.std.proofs.lemmas.Bool.{cases_lt, le-ltb, lt-ltb}
-use Rattle.std.proofs.lemmas.List.{get_or_past, map_more, map_push, places, take_more, take_more_set}
+use Rattle.std.proofs.lemmas.List.{get_or_past, map_more, map_push, places, take_more_set}
 use Rattle.std.proofs.lemmas.Grind.{common_steps}
 use Rattle.std.proofs.lemmas.Option.{slice_get-map}
 use Rattle.history.specs.declared.messages.Post.{Post}
@@ -24,12 +24,13 @@ use Rattle.history.specs.Marks.{IsMark, marks}
 use Rattle.history.specs.Rows.{Cell, Payload}
 use Rattle.history.specs.Runs.{Size, Call}
 use Rattle.history.specs.Board.{State, Answer, Reply, new_history, own_clock, marked, outcomes, run}
-use Rattle.history.specs.Laws.{Alike, OrderFree, answers_of}
+use Rattle.history.specs.Laws.{SameHistory, OrderFree, answers_of, message_told}
 use Rattle.history.proofs.Accepting.{accepts_runs}
 use Rattle.history.proofs.Answering.{messages_answered}
 use Rattle.history.proofs.OrderFree.{order_free}
 use Rattle.history.proofs.Outcomes.{outcomes_told}
-use Rattle.causality.specs.Boards.{Memory, Holds, Shows, Follows, Makes, most_marks, state_answer, left_answer}
+use Rattle.history.specs.Limits.{most_marks}
+use Rattle.causality.specs.Boards.{Memory, Holds, Shows, Follows, Makes, state_answer, left_answer}
 use Rattle.causality.proofs.Leaving.{each_shows, travelling_same}
 use Rattle.measures.specs.Words.{Word}
 use Rattle.measures.specs.Measures.{Meaning, Lawful}
@@ -119,17 +120,9 @@ module _ {V : Type 0} (m : Meaning V) (n k : ℕ) where
       rw (map_more f ds i d h, take_more_set ys i y h', map_push g (take i ys) y)
       (played_called (map f (take i ds)) (map g (take i ys)) old new (f (get_or ds i d)) (g y) p o)
 
-  -- The same of lists of calls and of answers themselves.
-  pub played_more : (cs : List Call) (xs : List (Result (Answer V) Refusal)) (i : ℕ) (d : Call) (x : Result (Answer V) Refusal)
-      → i < length cs → i < length xs → (old new : Memory V) → Played m n k (take i cs) (take i xs) old
-      → Obeys m n k (get_or cs i d) true old new x → Played m n k (take (i + 1) cs) (take (i + 1) (set xs i x)) new
-  played_more cs xs i d x h h' old new p o =
-      rw (take_more cs i d h, take_more_set xs i x h')
-      (played_called (take i cs) (take i xs) old new (get_or cs i d) x p o)
-
   -- Boards whose histories stand alike stand alike.
   played_alike : (cs ds : List Call) (xs ys : List (Result (Answer V) Refusal)) (a b : Memory V) → Played m n k cs xs a → Played m n k ds ys b
-      → Alike (run M z cs) (run M z ds) → StandAlike m.start n k a b
+      → SameHistory (run M z cs) (run M z ds) → StandAlike m.start n k a b
   played_alike cs ds xs ys a b p q h =
       stand_alike n k (run M z cs).state (run M z ds).state h.rows h.message_rows m.start a b h.posts p.shows q.shows
 
@@ -161,11 +154,11 @@ module _ {V : Type 0} (m : Meaning V) (n k : ℕ) where
   -- What a send or a receipt was told is what it was answered.
   message_answered : (cs : List Call) (xs : List (Result (Answer V) Refusal)) (memory : Memory V) → Played m n k cs xs memory → (u i p : ℕ)
       → (accepted_events m n k most_marks cs u i ≡ Some (send p)) ⊎ (accepted_events m n k most_marks cs u i ≡ Some (receive p))
-      → slice_get (answers_of u cs xs) i ≡ Some (own_clock (marks (accepted_events m n k most_marks cs) u i))
+      → slice_get (answers_of u cs xs) i ≡ Some (message_told (accepted_events m n k most_marks cs) u i)
   message_answered cs xs memory q u i p e =
       let (stamp, told) = messages_answered V M z cs u i p e in
       ap (λ (l : List (Result (Answer V) Refusal)). slice_get (answers_of u cs l) i) q.answers_are
-      ∙ reply_told M z cs u i (record { answer = own_clock (marks (accepted_events m n k most_marks cs) u i); stamp = stamp }) told
+      ∙ reply_told M z cs u i (record { answer = message_told (accepted_events m n k most_marks cs) u i; stamp = stamp }) told
 
 -- The stamp of a mark has no marks of units that the board does not have.
 no_marks : (ev : Events) (z : Size) → Ranged ev z → (v : ℕ) → z.units ≤ v → (P : ℕ → Type 0) → HowMany (λ j. IsMark ev v j × P j) 0

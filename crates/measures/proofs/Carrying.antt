@@ -1,7 +1,7 @@
 -- What the laws of a measure say along words and over lists of values.
 use Rattle.std.proofs.Common.{◌≡◌, ℕ, ◌+◌, ◌<◌, [], ◌∷◌, ◌++◌, map, length, get_or, take, sym, refl, ap, ◌∙◌}
 use Rattle.std.proofs.lemmas.List.{take_more}
-use Rattle.measures.specs.Words.{Letter, Word}
+use Rattle.measures.specs.Words.{Letter, Word, letter_of}
 use Rattle.measures.specs.Measures.{Meaning, Spelled, Lawful, carried_from, carried, joined, Carries}
 
 module _ {V : Type 0} (m : Meaning V) where
@@ -10,13 +10,13 @@ module _ {V : Type 0} (m : Meaning V) where
   carried_push v (x ∷ w) l = carried_push (m.step v x) w l
 
   -- what is carried along the first letters of a word, one letter more
-  pub carried_more : (w : Word) (i : ℕ) → i < length w → carried m (take (i + 1) w) ≡ m.step (carried m (take i w)) (get_or w i 0)
-  carried_more w i h = ap (carried m) (take_more w i 0 h) ∙ carried_push m.start (take i w) (get_or w i 0)
+  pub carried_more : (w : Word) (i : ℕ) → i < length w → carried m (take (i + 1) w) ≡ m.step (carried m (take i w)) (get_or w i (letter_of 0 0))
+  carried_more w i h = ap (carried m) (take_more w i (letter_of 0 0) h) ∙ carried_push m.start (take i w) (get_or w i (letter_of 0 0))
 
-  pub carried_take_more : (v x : V) (w : Word) (i : ℕ) → i < length w → v ≡ carried m (take i w) → x ≡ m.step v (get_or w i 0) → x ≡ carried m (take (i + 1) w)
+  pub carried_take_more : (v x : V) (w : Word) (i : ℕ) → i < length w → v ≡ carried m (take i w) → x ≡ m.step v (get_or w i (letter_of 0 0)) → x ≡ carried m (take (i + 1) w)
   carried_take_more v x w i h before step =
       step
-      ∙ ap (λ (y : V). m.step y (get_or w i 0)) before
+      ∙ ap (λ (y : V). m.step y (get_or w i (letter_of 0 0))) before
       ∙ sym (carried_more w i h)
 
   module _ (admits : V → Type 0) (laws : Lawful m admits) where

@@ -3,8 +3,8 @@ use Rattle.std.proofs.Common.{◌≡◌, ℕ, ◌+◌, ◌^◌, ◌<◌, ◌≤�
 use Rattle.std.proofs.lemmas.Bool.{lt-ltb, cases_lt}
 use Rattle.std.proofs.lemmas.List.{length-map}
 use Rattle.history.specs.Counting.{Among, Exactly}
-use Rattle.history.specs.Events.{Events}
-use Rattle.history.specs.Flows.{Place, Longest, letter_at, word}
+use Rattle.history.specs.Events.{Events, Place}
+use Rattle.history.specs.Flows.{Longest, letter_at, word}
 use Rattle.measures.specs.declared.spans.Ends.{Ends}
 use Rattle.measures.specs.Words.{Word}
 use Rattle.measures.specs.Measures.{Spelled, carried_from, carried, joined}

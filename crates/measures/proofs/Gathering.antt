@@ -2,8 +2,7 @@
 use Rattle.std.proofs.Common.{◌≡◌, ℕ, zero, suc, ◌<◌, true, false, ◌⊎◌, List, [], ◌∷◌, ◌++◌, Some, sym, refl, ◌∙◌, subst, ap₂, subst₂, inl, inr, ⊎_elim, arith}
 use Rattle.std.proofs.lemmas.Bool.{cases_eq, cases_Bool}
 use Rattle.history.specs.Counting.{Among, Distinct, Exactly}
-use Rattle.history.specs.Events.{Events}
-use Rattle.history.specs.Flows.{Place}
+use Rattle.history.specs.Events.{Events, Place}
 use Rattle.history.specs.Rows.{Cell}
 use Rattle.history.proofs.Truth.{Top, Truthful, top_one}
 use Rattle.history.proofs.Flows.{Flow, flow_end}

@@ -3,8 +3,8 @@ use Rattle.std.proofs.Common.{◌≡◌, ℕ, Bool, true, ◌&&◌, ◌||◌, �
 use Rattle.std.proofs.lemmas.Bool.Decides.{Decides-at}
 use Rattle.std.proofs.lemmas.Bool.{or_cases, or_left, or_right, and_parts, and_from}
 use Rattle.history.specs.Counting.{Among, Exactly}
-use Rattle.history.specs.Events.{Events}
-use Rattle.history.specs.Flows.{Place, Opens, Linked, Longest, letter_at, word}
+use Rattle.history.specs.Events.{Events, Place}
+use Rattle.history.specs.Flows.{Opens, Linked, Longest, letter_at, word}
 use Rattle.history.proofs.Sound.{Ranged}
 use Rattle.measures.specs.Words.{Word}
 use Rattle.measures.specs.Measures.{Meaning, Lawful, Fits, Spelled, carried_from, carried, joined}

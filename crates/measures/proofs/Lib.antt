@@ -1,8 +1,10 @@
+pub mod Accepting
 pub mod Asking
 pub mod BoardLaw
 pub mod Carrying
 mod FlowSizes
 pub mod Gathering
+mod Images
 pub mod Judging
 pub mod Lifting
 pub mod MarkedRows
@@ -16,5 +18,6 @@ pub mod Reading
 pub mod Recognizing
 pub mod Replaying
 pub mod Totals
+pub mod Translating
 pub mod Valuing
 pub mod Worths

@@ -8,7 +8,8 @@ use Rattle.history.specs.Runs.{Size, Call}
 use Rattle.history.specs.Board.{State, Answer, answered, answer_to, new_state, refusal, acted, next}
 use Rattle.history.specs.Laws.{SameBare, CarriesFreely}
 use Rattle.history.proofs.Bare.{carries_freely}
-use Rattle.causality.specs.Boards.{Memory, Holds, Shows, SameFrom, Follows, Makes, most_marks}
+use Rattle.history.specs.Limits.{most_marks}
+use Rattle.causality.specs.Boards.{Memory, Holds, Shows, SameFrom, Follows, Makes}
 use Rattle.causality.proofs.Calling.{nothing_held}
 use Rattle.causality.proofs.Following.{taken_next, taken_follows, refused_follows, short_follows}
 use Rattle.causality.proofs.Leaving.{each_shows}

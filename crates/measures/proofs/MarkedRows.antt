@@ -11,11 +11,16 @@ use Rattle.history.specs.declared.messages.Post.{Post}
 use Rattle.history.specs.Events.{mark}
 use Rattle.history.specs.Rows.{Cell, nothing, mark_row}
 use Rattle.history.specs.Board.{State, Answer, marked, acted}
-use Rattle.causality.specs.Boards.{Memory, Holds, Shows, Follows, call, bare, fits_board, has_room, most_marks}
+use Rattle.history.specs.Limits.{most_marks}
+use Rattle.causality.specs.Boards.{Memory, Holds, Shows, Follows, fits_board, has_room}
+use Rattle.causality.specs.Calls.{bare}
+use Rattle.history.specs.Runs.{call}
 use Rattle.causality.proofs.Showing.{same_from, holds_unit}
 use Rattle.measures.specs.Measures.{Meaning}
-use Rattle.measures.specs.Worths.{plus, gathered, members, worth, carrying, sized}
-use Rattle.measures.specs.Boards.{Obeys, lent, has_rooms}
+use Rattle.measures.specs.Words.{letter_of}
+use Rattle.measures.specs.Worths.{plus, gathered, worth, carrying, sized}
+use Rattle.measures.specs.Calls.{flagged_by, lent, has_rooms}
+use Rattle.measures.specs.Boards.{Obeys}
 use Rattle.measures.proofs.Lifting.{bare_of, took, taken_obeys, taken_in, with_room, room_true, acted_like, mark_named}
 
 -- what is gathered depends on flags and values alone
@@ -28,7 +33,7 @@ gathered_same {V} m r t (suc n) e =
     ∙ ap (λ (o : Option V). cond (t n).flag (plus m o (Some (t n).value)) o) before
 
 pub worth_same : {V : Type 0} (m : Meaning V) (r t : ℕ → Cell V) (n u l : ℕ) → ((j : ℕ) → j < n → ((r j).flag ≡ (t j).flag) × ((r j).value ≡ (t j).value)) → worth m n r u l ≡ worth m n t u l
-worth_same {V} m r t n u l e = ap (λ (o : Option V). m.step (unwrap_or o m.start) l) (gathered_same m r t n e)
+worth_same {V} m r t n u l e = ap (λ (o : Option V). m.step (unwrap_or o m.start) (letter_of u l)) (gathered_same m r t n e)
 
 marked_moved : {V : Type 0} (x y w z : ℕ) (v t : V) → (let a : Answer (Unit {0}) = marked x y tt in a) ≡ marked w z tt → v ≡ t → marked x y v ≡ marked w z t
 marked_moved x y w z v t e f = (let g : x ≡ w = cc in let h : y ≡ z = cc in rw (g, h, f) refl)
@@ -39,7 +44,7 @@ module _ {V : Type 0} (m : Meaning V) (n k u l : ℕ) (clocks : Grid ℕ) (flags
   new = record { clocks = cs; flags = fs; values = vs; posts = posts }
 
   module _ (f : Follows nothing (sized m n k most_marks) (call u (mark l)) (has_room n k clocks flags posts) (bare clocks flags posts) (bare_of new) (Ok (marked clock units tt)))
-      (is : units < 2 ^ n → value ≡ worth m n (members units m.start (row values.cells.now n u)) u l)
+      (is : units < 2 ^ n → value ≡ worth m n (flagged_by units m.start (row values.cells.now n u)) u l)
       (first : V) (starts : first ≡ m.start) (w : RowIs n u m.start (λ j. cond (eqb j u) value first) values.cells.now vs) where
     there : has_room n k clocks flags posts ≡ true
     there = room_true m n k (call u (mark l)) (lent clocks flags values posts) new (marked clock units tt) _ f
@@ -62,7 +67,7 @@ module _ {V : Type 0} (m : Meaning V) (n k u l : ℕ) (clocks : Grid ℕ) (flags
       worth_is : value ≡ worth m n (s.rows u) u l
       worth_is =
           is (subst (λ (set : ℕ). set < 2 ^ n) (sym units_are) (those_below _ n))
-          ∙ worth_same m (members units m.start (row values.cells.now n u)) (s.rows u) n u l (λ j h. (flag_read j h, value_read j h ∙ sh.values.rows u j unit h))
+          ∙ worth_same m (flagged_by units m.start (row values.cells.now n u)) (s.rows u) n u l (λ j h. (flag_read j h, value_read j h ∙ sh.values.rows u j unit h))
         where
           flag_read : (j : ℕ) → j < n → has units j ≡ (s.rows u j).flag
           flag_read j h = ap (λ (set : ℕ). has set j) units_are ∙ has_those (λ i. (s.rows u i).flag) n j h

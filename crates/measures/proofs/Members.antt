@@ -1,5 +1,5 @@
 -- The values of a set's members, gathered from the lowest on.
-use Rattle.std.proofs.Common.{◌≡◌, ℕ, zero, suc, ◌^◌, ◌<◌, ◌≤◌, false, ◌&&◌, not, eqb, leb, List, Some, None, Option, get_or, sym, refl, ap, ◌∙◌, subst, inl, inr, arith}
+use Rattle.std.proofs.Common.{◌≡◌, ℕ, zero, suc, ◌^◌, ◌<◌, ◌≤◌, false, ◌&&◌, not, eqb, leb, List, Some, Option, get_or, sym, ap, ◌∙◌, subst, inl, inr, arith}
 use Rattle.std.proofs.lemmas.Bool.{cases_lt, cases_eq, cond-true, cond-false}
 use Rattle.std.proofs.lemmas.Bool.Decides.{nat_tests}
 use Rattle.std.proofs.lemmas.Nat.Bits.{bit_at-zero, bit_at_above}
@@ -7,7 +7,8 @@ use Rattle.bitset.specs.Sets.{Member, has}
 use Rattle.bitset.proofs.Members.{cases_bit}
 use Rattle.history.specs.Rows.{Cell}
 use Rattle.measures.specs.Measures.{Meaning}
-use Rattle.measures.specs.Worths.{plus, gathered, members}
+use Rattle.measures.specs.Worths.{plus, gathered}
+use Rattle.measures.specs.Calls.{flagged_by}
 
 module _ {V : Type 0} (m : Meaning V) where
   -- cells with no flag add nothing
@@ -22,46 +23,42 @@ module _ {V : Type 0} (m : Meaning V) where
   pub record SoFar (set : ℕ) (values : List V) (rest : ℕ) (all : Option V) : Type 0 where
     pub place : ℕ
     pub others : (p : ℕ) → has rest p ≡ (leb place p && has set p)
-    pub sum : all ≡ gathered m (members set m.start values) place
+    pub sum : all ≡ gathered m (flagged_by set m.start values) place
 
-  module _ (set : ℕ) (values : List V) where
-    pub so_far_none : SoFar set values set None
-    so_far_none = record { place = 0; others = λ p. grind (arith, nat_tests); sum = refl }
+  module _ (set : ℕ) (values : List V) (rest : ℕ) (all : Option V) (s : SoFar set values rest all) where
+    -- one more member, the lowest of the rest
+    pub so_far_more : (q left : ℕ) (x : V) → Member q rest → ((p : ℕ) → Member p rest → q ≤ p) → ((p : ℕ) → has left p ≡ (has rest p && not (eqb p q)))
+        → Some x ≡ plus m all (Some (get_or values q m.start)) → SoFar set values left (Some x)
+    so_far_more q left x here lowest without e = record {
+      place = suc q;
+      others = λ p.
+          let a = without p in
+          let b = s.others p in
+          let c = s.others q in
+          elim (cases_lt p q) [
+            | inl l ↦ elim (cases_bit rest p) [ inl z ↦ grind (arith, nat_tests) | inr i ↦ absurd (omega (arith, lowest p i)) ]
+            | inr g ↦ elim (cases_eq p q) [ inl d ↦ grind (arith, nat_tests) | inr d ↦ grind (arith, nat_tests) ]
+          ];
+      sum = e ∙ ap (λ (o : Option V). plus m o (Some (get_or values q m.start))) (s.sum ∙ sym (gathered_idle (flagged_by set m.start values) s.place q (grind (arith, nat_tests)) none)) ∙ sym (cond-true (has set q) _ _ (grind (arith, nat_tests)));
+    }
+      where
+        none : (j : ℕ) → s.place ≤ j → j < q → has set j ≡ false
+        none j a b =
+            let e = s.others j in
+            elim (cases_bit rest j) [ inl z ↦ grind (arith, nat_tests) | inr i ↦ absurd (omega (arith, lowest j i)) ]
 
-    module _ (rest : ℕ) (all : Option V) (s : SoFar set values rest all) where
-      -- one more member, the lowest of the rest
-      pub so_far_more : (q left : ℕ) (x : V) → Member q rest → ((p : ℕ) → Member p rest → q ≤ p) → ((p : ℕ) → has left p ≡ (has rest p && not (eqb p q)))
-          → Some x ≡ plus m all (Some (get_or values q m.start)) → SoFar set values left (Some x)
-      so_far_more q left x here lowest without e = record {
-        place = suc q;
-        others = λ p.
-            let a = without p in
-            let b = s.others p in
-            let c = s.others q in
-            elim (cases_lt p q) [
-              | inl l ↦ elim (cases_bit rest p) [ inl z ↦ grind (arith, nat_tests) | inr i ↦ absurd (omega (arith, lowest p i)) ]
-              | inr g ↦ elim (cases_eq p q) [ inl d ↦ grind (arith, nat_tests) | inr d ↦ grind (arith, nat_tests) ]
-            ];
-        sum = e ∙ ap (λ (o : Option V). plus m o (Some (get_or values q m.start))) (s.sum ∙ sym (gathered_idle (members set m.start values) s.place q (grind (arith, nat_tests)) none)) ∙ sym (cond-true (has set q) _ _ (grind (arith, nat_tests)));
-      }
-        where
-          none : (j : ℕ) → s.place ≤ j → j < q → has set j ≡ false
-          none j a b =
-              let e = s.others j in
-              elim (cases_bit rest j) [ inl z ↦ grind (arith, nat_tests) | inr i ↦ absurd (omega (arith, lowest j i)) ]
+    -- once nothing is left, all members are gathered
+    pub so_far_all : rest ≡ 0 → (n : ℕ) → set < 2 ^ n → all ≡ gathered m (flagged_by set m.start values) n
+    so_far_all z n small = elim (cases_lt s.place n) [
+      | inl l ↦ s.sum ∙ sym (gathered_idle (flagged_by set m.start values) s.place n (omega arith) none)
+      | inr g ↦ s.sum ∙ gathered_idle (flagged_by set m.start values) n s.place g past
+    ]
+      where
+        none : (j : ℕ) → s.place ≤ j → j < n → has set j ≡ false
+        none j a b =
+            let e : has 0 j ≡ (leb s.place j && has set j) = subst (λ (r : ℕ). has r j ≡ (leb s.place j && has set j)) z (s.others j) in
+            let x = bit_at-zero j in
+            grind (arith, nat_tests)
 
-      -- once nothing is left, all members are gathered
-      pub so_far_all : rest ≡ 0 → (n : ℕ) → set < 2 ^ n → all ≡ gathered m (members set m.start values) n
-      so_far_all z n small = elim (cases_lt s.place n) [
-        | inl l ↦ s.sum ∙ sym (gathered_idle (members set m.start values) s.place n (omega arith) none)
-        | inr g ↦ s.sum ∙ gathered_idle (members set m.start values) n s.place g past
-      ]
-        where
-          none : (j : ℕ) → s.place ≤ j → j < n → has set j ≡ false
-          none j a b =
-              let e : has 0 j ≡ (leb s.place j && has set j) = subst (λ (r : ℕ). has r j ≡ (leb s.place j && has set j)) z (s.others j) in
-              let x = bit_at-zero j in
-              grind (arith, nat_tests)
-
-          past : (j : ℕ) → n ≤ j → j < s.place → has set j ≡ false
-          past j a b = let e = bit_at_above set n j small a in grind (arith, nat_tests)
+        past : (j : ℕ) → n ≤ j → j < s.place → has set j ≡ false
+        past j a b = let e = bit_at_above set n j small a in grind (arith, nat_tests)

@@ -13,14 +13,18 @@ use Rattle.history.specs.declared.refusals.Refusal.{Refusal}
 use Rattle.history.specs.Events.{send, receive}
 use Rattle.history.specs.Rows.{Cell, nothing, merged_cell}
 use Rattle.history.specs.Board.{State, Answer, own_clock}
-use Rattle.causality.specs.Boards.{Memory, Shows, Follows, call, bare, fits_board, has_room, handling_refusal, clock_told, most_marks}
+use Rattle.history.specs.Limits.{most_marks}
+use Rattle.causality.specs.Boards.{Memory, Shows, Follows, fits_board, has_room}
+use Rattle.causality.specs.Calls.{bare, handling_refusal, clock_told}
+use Rattle.history.specs.Runs.{call}
 use Rattle.causality.specs.Merging.{cells, merged}
 use Rattle.causality.proofs.Calling.{Room, room_row, handling_taken}
 use Rattle.causality.proofs.Showing.{same_from, holds_unit, holds_message}
 use Rattle.causality.proofs.Writing.{rows_there}
 use Rattle.measures.specs.Measures.{Meaning}
 use Rattle.measures.specs.Worths.{carrying, sized}
-use Rattle.measures.specs.Boards.{Obeys, lent, has_rooms}
+use Rattle.measures.specs.Boards.{Obeys}
+use Rattle.measures.specs.Calls.{lent, has_rooms}
 use Rattle.measures.specs.Merging.{ask_value_rows, merged_values}
 use Rattle.measures.proofs.Asking.{receive_sure}
 use Rattle.measures.proofs.Lifting.{bare_of, taken_obeys, taken_in, with_room, room_true, acted_like, send_named, receive_named}

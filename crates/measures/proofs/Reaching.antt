@@ -10,7 +10,8 @@ use Rattle.measures.specs.Laws.{accepted_events, AtMarks}
 use Rattle.measures.specs.Automata.{state_sets}
 use Rattle.measures.specs.Formats.{labels_in, PatternOf}
 use Rattle.measures.specs.Acceptance.{state_after, accepts, Reaches, MarksReach}
-use Rattle.measures.specs.Accepting.{state_sets_lawful, meets_or, within_or}
+use Rattle.measures.specs.StateSetLaws.{state_sets_lawful}
+use Rattle.measures.proofs.Accepting.{meets_or, within_or}
 use Rattle.measures.proofs.BoardLaw.{at_answers}
 use Rattle.measures.proofs.Valuing.{ranged}
 use Rattle.measures.proofs.Judging.{some_decided, marks_judged}

@@ -12,7 +12,7 @@ use Rattle.measures.specs.Measures.{carried, joined}
 use Rattle.measures.specs.Automata.{next, leads, state_sets}
 use Rattle.measures.specs.Formats.{labels_in, table_in, padded, PatternOf}
 use Rattle.measures.specs.Acceptance.{state_after, accepts, Any, Recognizes}
-use Rattle.measures.specs.Accepting.{carried_one, only_member, meets_one, within_one}
+use Rattle.measures.proofs.Accepting.{carried_one, only_member, meets_one, within_one}
 
 -- the zeros after a table change no entry
 padded_at : (n : ℕ) (t : List ℕ) (i : ℕ) → get_or (padded n t) i 0 ≡ get_or t i 0

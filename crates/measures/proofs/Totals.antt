@@ -4,8 +4,8 @@ use mathlib.Core.List.{reverse-cons}
 use Rattle.std.specs.Option.{IfSome, option_map}
 use Rattle.std.proofs.lemmas.List.{map_push}
 use Rattle.history.specs.Counting.{Exactly}
-use Rattle.history.specs.Events.{Events}
-use Rattle.history.specs.Flows.{Place, letter_at, word}
+use Rattle.history.specs.Events.{Events, Place}
+use Rattle.history.specs.Flows.{letter_at, word}
 use Rattle.history.proofs.Lists.{exactly_same}
 use Rattle.measures.specs.Words.{Letter}
 use Rattle.measures.specs.Measures.{Meaning, Lawful, Fits, carried, joined}

@@ -5,8 +5,8 @@ use Rattle.std.proofs.lemmas.Option.{same_Some}
 use Rattle.std.proofs.lemmas.List.{map-id, reverse-reverse}
 use Rattle.std.proofs.lemmas.Simd.{map-map}
 use Rattle.history.specs.Counting.{Exactly}
-use Rattle.history.specs.Events.{Events, mark}
-use Rattle.history.specs.Flows.{Place, Longest, word}
+use Rattle.history.specs.Events.{Events, mark, Place}
+use Rattle.history.specs.Flows.{Longest, word}
 use Rattle.history.specs.Rows.{Cell}
 use Rattle.history.specs.Runs.{Call}
 use Rattle.history.proofs.Answering.{answer_made}

@@ -3,8 +3,8 @@ use Rattle.std.proofs.Common.{◌≡◌, ℕ, List, [], ◌∷◌, map, Some, No
 use Rattle.std.specs.Option.{option_map}
 use Rattle.std.proofs.lemmas.Bool.{ltb-true}
 use Rattle.history.specs.Counting.{Among}
-use Rattle.history.specs.Events.{Events, mark}
-use Rattle.history.specs.Flows.{Place, letter, letter_at}
+use Rattle.history.specs.Events.{Events, mark, Place}
+use Rattle.history.specs.Flows.{letter, letter_at}
 use Rattle.history.specs.HappenedBefore.{Before}
 use Rattle.history.specs.Marks.{IsMark}
 use Rattle.history.specs.Rows.{Cell}

@@ -2,8 +2,8 @@
 use Rattle.std.specs.Prelude.{◌≡◌, ℕ, ◌^◌, Bool, ◌⊎◌, ◌↔◌, List, [], ◌∷◌, map, IsTrue}
 use Rattle.std.specs.List.{AllByRecursion}
 use Rattle.bitset.specs.Sets.{Member, has}
-use Rattle.history.specs.Events.{Events}
-use Rattle.history.specs.Flows.{Place, Longest, word}
+use Rattle.history.specs.Events.{Events, Place}
+use Rattle.history.specs.Flows.{Longest, word}
 use Rattle.measures.specs.Words.{Word, Labels}
 use Rattle.measures.specs.Measures.{Meaning, carried, joined}
 use Rattle.measures.specs.Automata.{next, leads}

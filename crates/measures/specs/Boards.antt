@@ -1,8 +1,6 @@
 -- Boards under a measure, and the law of every list of calls handed to a board just made.
 use Rattle.std.specs.Prelude.{◌≡◌, ℕ, suc, ◌+◌, ◌*◌, ◌<◌, Bool, true, false, ◌&&◌, ◌||◌, ◌⊎◌, List, [], ◌∷◌, ◌++◌, length, Some, None, Ok, Err, Result, IsTrue, slice_get, slice_index, slice_index_or}
-use Rattle.grid.specs.declared.Grid.{Grid}
 use Rattle.grid.specs.Rows.{row}
-use Rattle.history.specs.declared.messages.Post.{Post}
 use Rattle.history.specs.declared.messages.Post.TheVariants.{Unsent}
 use Rattle.history.specs.declared.refusals.Refusal.{Refusal}
 use Rattle.history.specs.declared.refusals.Refusal.TheVariants.{MemoryTooShort}
@@ -11,9 +9,9 @@ use Rattle.history.specs.Marks.{marks}
 use Rattle.history.specs.Stamps.{Stamp}
 use Rattle.history.specs.Runs.{Call, SameByUnit}
 use Rattle.history.specs.Board.{Answer, own_clock, marked, outcomes, run, accepted}
-use Rattle.history.specs.Laws.{AcceptsRuns, answers_of}
-use Rattle.causality.specs.Boards.{Memory, Shows, EachShows, Follows, Makes, most_marks, fits_board, has_room, state_answer, left_answer}
-use Rattle.measures.specs.declared.boards.JudgedMark as code
+use Rattle.history.specs.Laws.{AcceptsRuns, answers_of, message_told}
+use Rattle.history.specs.Limits.{most_marks}
+use Rattle.causality.specs.Boards.{Memory, Shows, EachShows, Follows, Makes, state_answer, left_answer}
 use Rattle.measures.specs.Words.{Word}
 use Rattle.measures.specs.Measures.{Meaning}
 use Rattle.measures.specs.Judges.{Judges}
@@ -27,19 +25,6 @@ pub record StandAlike {V : Type 0} (start : V) (n k : ℕ) (a b : Memory V) : Ty
   pub flags : (r j : ℕ) → r < n + k → j < n → slice_index_or a.flags (r * n + j) false ≡ slice_index_or b.flags (r * n + j) false
   pub values : (r j : ℕ) → r < n + k → j < n → slice_index_or a.values (r * n + j) start ≡ slice_index_or b.values (r * n + j) start
   pub posts : (p : ℕ) → p < k → slice_index_or a.posts p Unsent ≡ slice_index_or b.posts p Unsent
-
--- the memory of a board under a measure: three grids and the states of the messages
-abbrev pub lent : {V : Type 0} → Grid ℕ → Grid Bool → Grid V → List Post → Memory V
-lent clocks flags values posts = record { clocks = clocks.cells.now; flags = flags.cells.now; values = values.cells.now; posts = posts }
-
--- Whether that memory is long enough for a board of n units and k messages.
-abbrev pub has_rooms : {V : Type 0} → ℕ → ℕ → Grid ℕ → Grid Bool → Grid V → List Post → Bool
-has_rooms n k clocks flags values posts = fits_board n k values && has_room n k clocks flags posts
-
--- what a mark answers under a judge, but for the verdict
-abbrev pub judged_told : {V : Type 0} → Result (code.JudgedMark V) Refusal → Result (Answer V) Refusal
-judged_told (Ok r) = Ok (marked r.mark.clock r.mark.predecessors r.mark.value)
-judged_told (Err e) = Err e
 
 -- What a call on a board of n units and k messages under the measure owes.
 abbrev pub Obeys : {V : Type 0} → Meaning V → ℕ → ℕ → Call → Bool → Memory V → Memory V → Result (Answer V) Refusal → Type 0
@@ -114,7 +99,7 @@ pub record LawOfBoards {V : Type 0} (m : Meaning V) (admits : V → Type 0) : Ty
   -- each accepted send or receipt is answered the number of its unit's marks so far
   pub messages_answered : (n k : ℕ) (cs : List Call) (xs : List (Result (Answer V) Refusal)) (memory : Memory V) → Played m n k cs xs memory
       → (u i p : ℕ) → (accepted_events m n k most_marks cs u i ≡ Some (send p)) ⊎ (accepted_events m n k most_marks cs u i ≡ Some (receive p))
-      → slice_get (answers_of u cs xs) i ≡ Some (own_clock (marks (accepted_events m n k most_marks cs) u i))
+      → slice_get (answers_of u cs xs) i ≡ Some (message_told (accepted_events m n k most_marks cs) u i)
   -- the order of the calls of different units does not matter
   pub order : (n k : ℕ) (cs ds : List Call) (xs ys : List (Result (Answer V) Refusal)) (a b : Memory V) → Played m n k cs xs a → Played m n k ds ys b
       → SameByUnit (accepted (carrying m n) (sized m n k most_marks) cs) (accepted (carrying m n) (sized m n k most_marks) ds) → Agree m n k cs ds xs ys a b

@@ -27,22 +27,32 @@ little_endian e =
     slice_index e 0 + slice_index e 1 * 256 + slice_index e 2 * 65536 + slice_index e 3 * 16777216 + slice_index e 4 * 4294967296
     + slice_index e 5 * 1099511627776 + slice_index e 6 * 281474976710656 + slice_index e 7 * 72057594037927936
 
--- A pattern's bytes: 20 in hexadecimal, the number of states, the number of labels, the start state,
--- eight bytes of final states (bit q for state q), and the table of next states.
+-- A pattern's bytes are 20 in hexadecimal, the number of states, the number of labels, the start state, eight bytes of final states (bit q for
+-- state q), and the table of next states.
+
+-- the number of states
 abbrev pub states_in : List ℕ → ℕ
 states_in b = slice_index b 1
 
+-- the number of labels
 abbrev pub labels_in : List ℕ → ℕ
 labels_in b = slice_index b 2
 
+-- the start state
 abbrev pub start_in : List ℕ → ℕ
 start_in b = slice_index b 3
 
+-- the set of final states
 abbrev pub finals_in : List ℕ → ℕ
 finals_in b = little_endian (take 8 (drop 4 b))
 
+-- the next states: a row for each state, with an entry for each label
 abbrev pub table_in : List ℕ → List ℕ
 table_in b = take (states_in b * labels_in b) (drop 12 b)
+
+-- the number of a pattern's bytes
+abbrev pub pattern_size : List ℕ → ℕ
+pattern_size b = 12 + states_in b * labels_in b
 
 -- What is wrong with a pattern's first twelve bytes.
 abbrev pub head_fault : List ℕ → Option Fault
@@ -71,21 +81,24 @@ pub record PatternOf (b : List ℕ) (states labels start finals : ℕ) (table : 
   pub finals_are : finals ≡ finals_in b
   pub table_is : table ≡ padded 4096 (table_in b)
 
--- A relabelling's bytes, from the byte `at` of b on: 30 in hexadecimal, the number of labels, and an entry for each.
-abbrev pub count_in : List ℕ → ℕ → ℕ
-count_in b at = slice_index b (at + 1)
+-- A relabelling's bytes, from the byte `at` of b on, are 30 in hexadecimal, the number of labels, and an entry for each.
 
+-- the number of labels
+abbrev pub relabelling_labels_in : List ℕ → ℕ → ℕ
+relabelling_labels_in b at = slice_index b (at + 1)
+
+-- the inner label of each
 abbrev pub entries_in : List ℕ → ℕ → List ℕ
-entries_in b at = take (count_in b at) (drop (at + 2) b)
+entries_in b at = take (relabelling_labels_in b at) (drop (at + 2) b)
 
 -- What is wrong with a relabelling's first two bytes.
-abbrev pub count_fault : List ℕ → ℕ → Option Fault
-count_fault b at =
+abbrev pub relabelling_head_fault : List ℕ → ℕ → Option Fault
+relabelling_head_fault b at =
     ask (nat_lt at (length b) && slice_index b at == 0x30) (fault NotARelabelling at)
     (ask (nat_lt (at + 1) (length b)) (fault TableTooShort (length b))
-    (ask (counted (count_in b at)) (fault LabelCount (at + 1))
+    (ask (counted (relabelling_labels_in b at)) (fault LabelCount (at + 1))
     None))
 
 -- What is wrong with the bytes of a relabelling to n inner labels.
 abbrev pub relabelling_fault : List ℕ → ℕ → ℕ → Option Fault
-relabelling_fault b at n = option_or (count_fault b at) (table_fault b (at + 2) (count_in b at) n)
+relabelling_fault b at n = option_or (relabelling_head_fault b at) (table_fault b (at + 2) (relabelling_labels_in b at) n)

@@ -1,8 +1,8 @@
 -- The law over runs under a measure: what is true of every list of calls handed to a new board.
 use Rattle.std.specs.Prelude.{◌≡◌, ℕ, Bool, List, ◌∷◌, map, Some, ◌↔◌, IsTrue}
 use Rattle.history.specs.Counting.{Exactly}
-use Rattle.history.specs.Events.{Events, mark}
-use Rattle.history.specs.Flows.{Place, Longest, word}
+use Rattle.history.specs.Events.{Events, mark, Place}
+use Rattle.history.specs.Flows.{Longest, word}
 use Rattle.history.specs.Board.{accepted}
 use Rattle.history.specs.Runs.{Call, SameByUnit}
 use Rattle.history.specs.Laws.{happened, Answered, OrderFree}

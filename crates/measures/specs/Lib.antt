@@ -1,6 +1,7 @@
 pub mod Acceptance
 pub mod Automata
 pub mod Boards
+pub mod Calls
 pub mod Counts
 pub mod Formats
 pub mod Judges
@@ -13,6 +14,6 @@ pub mod Replays
 pub mod Spans
 pub mod Words
 pub mod Worths
-pub mod Accepting
-pub mod Images
-pub mod Translating
+pub mod ImageLaws
+pub mod RelabellingLaws
+pub mod StateSetLaws

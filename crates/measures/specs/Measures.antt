@@ -1,7 +1,7 @@
 -- What a measure is, its laws, and what it makes of words and of lists of values.
 use Rattle.std.specs.Prelude.{◌≡◌, ℕ, ◌<◌, ◌≤◌, Bool, List, [], ◌∷◌, map, nat_lt}
 use Rattle.std.specs.List.{AllByRecursion}
-use Rattle.measures.specs.Words.{Letter, Word, letter_of, Labels}
+use Rattle.measures.specs.Words.{Letter, Word, letter_of, label_of, Labels}
 
 -- A measure offers a number of labels, a start value, a step from a value by a letter, and a join of two values.
 pub record Meaning (V : Type 0) : Type 0 where
@@ -12,11 +12,11 @@ pub record Meaning (V : Type 0) : Type 0 where
 
 -- l is a letter of the measure: a label below its count
 abbrev pub Fits : {V : Type 0} → Meaning V → Letter → Type 0
-Fits m l = l < m.labels
+Fits m l = label_of l < m.labels
 
 -- whether a mark of unit u with label l has a letter of the measure
 abbrev pub fits : {V : Type 0} → Meaning V → ℕ → ℕ → Bool
-fits m u l = nat_lt (letter_of u l) m.labels
+fits m u l = nat_lt (label_of (letter_of u l)) m.labels
 
 -- each letter of the word is the measure's
 abbrev pub Spelled : {V : Type 0} → Meaning V → Word → Type 0

@@ -1,4 +1,4 @@
--- The refusals, with their numbers and places.
+-- The refusals of readers and makers of measures, with their numbers and places.
 use Rattle.std.specs.Prelude.{ℕ, Bool, ◌&&◌, None, Option, nat_le}
 pub use Rattle.history.specs.Refusals.{ask}
 use Rattle.measures.specs.declared.refusals.Fault.{Fault}
@@ -27,8 +27,8 @@ abbrev pub counted : ℕ → Bool
 counted n = nat_le 1 n && nat_le n 64
 
 -- what a flow count is refused for
-abbrev pub count_refusal : ℕ → Option Refusal
-count_refusal labels = ask (counted labels) LabelCount None
+abbrev pub flow_count_refusal : ℕ → Option Refusal
+flow_count_refusal labels = ask (counted labels) LabelCount None
 
 -- what a span is refused for
 abbrev pub span_refusal : ℕ → ℕ → Option Refusal

@@ -1,8 +1,8 @@
 -- The span.
 use Rattle.std.specs.Prelude.{◌≡◌, ℕ, ◌+◌, ◌<◌, ◌≤◌, List, length, min, max, if◌then◌else◌, nat_lt}
 use Rattle.std.proofs.Common.{rules}
-use Rattle.history.specs.Events.{Events}
-use Rattle.history.specs.Flows.{Place, Longest}
+use Rattle.history.specs.Events.{Events, Place}
+use Rattle.history.specs.Flows.{Longest}
 use Rattle.measures.specs.declared.spans.Ends.{Ends}
 use Rattle.measures.specs.Boards.{AtAnswers}
 use Rattle.measures.specs.Measures.{Meaning, Lawful}

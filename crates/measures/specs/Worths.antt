@@ -1,15 +1,10 @@
--- What a mark is worth under a measure.
-use Rattle.std.specs.Prelude.{ℕ, zero, suc, if◌then◌else◌, List, Some, None, Option, slice_index_or}
+-- What a mark is worth under a measure, and what a board's cells carry and its size is.
+use Rattle.std.specs.Prelude.{ℕ, zero, suc, if◌then◌else◌, Some, None, Option}
 use Rattle.std.specs.Option.{unwrap_or}
-use Rattle.bitset.specs.Sets.{has}
 use Rattle.history.specs.Rows.{Cell, Payload}
 use Rattle.history.specs.Runs.{Size}
 use Rattle.measures.specs.Words.{letter_of}
 use Rattle.measures.specs.Measures.{Meaning, fits}
-
--- The cells whose flag is membership in a set, with these values; past their end a cell carries `start`. Their clocks do not matter.
-abbrev pub members : {V : Type 0} → ℕ → V → List V → ℕ → Cell V
-members set start values j = record { clock = 0; flag = has set j; value = slice_index_or values j start }
 
 module _ {V : Type 0} (m : Meaning V) where
   -- the join of what there is

@@ -1,12 +1,15 @@
-// A board under a measure: it follows a recording, and tells of each mark what the longest flows that end there are worth.
+// A board under a measure: it follows the calls of a run, and tells of each mark what the longest flows that end there are worth.
 // As on the board without measures, the grids refuse nothing once the questions are asked, and what they answer is dropped.
 ghost use Rattle.std.specs.Prelude.{◌≡◌, ℕ, ◌^◌, ◌<◌, true, Some, None, IfOk, MatchResult};
-ghost use Rattle.grid.specs.Grids.{has_row, SameMemory};
+ghost use Rattle.grid.specs.Grids.{has_row, SameLoan};
 ghost use Rattle.grid.specs.Rows.{row as row_of};
 ghost use Rattle.history.specs.Events.{send, receive, mark};
-ghost use Rattle.causality.specs.Boards.{Makes, call, make_refusal, state_answer, left_answer, clock_told, mark_told};
-ghost use Rattle.measures.specs.Worths.{carrying, members, worth};
-ghost use Rattle.measures.specs.Boards.{Obeys, lent, has_rooms, judged_told, MarksGood};
+ghost use Rattle.causality.specs.Boards.{Makes, make_refusal, state_answer, left_answer};
+ghost use Rattle.causality.specs.Calls.{clock_told, mark_told};
+ghost use Rattle.history.specs.Runs.{call};
+ghost use Rattle.measures.specs.Worths.{carrying, worth};
+ghost use Rattle.measures.specs.Calls.{flagged_by, lent, has_rooms, judged_told};
+ghost use Rattle.measures.specs.Boards.{Obeys, MarksGood};
 
 use super::Measure;
 use super::judges::{Judge, Verdict, verdicts};
@@ -46,9 +49,9 @@ impl<M: Measure> MeasuredBoard<M> {
         M: Drop,
         ensures answer { MatchResult result (λ b. (make_refusal units messages (has_rooms units messages clocks.old flags.old values.old posts.old) ≡ None) × (b.board.units ≡ units) × (b.board.messages ≡ messages) × (b.measure ≡ measure)) (λ e. make_refusal units messages (has_rooms units messages clocks.old flags.old values.old posts.old) ≡ Some e) }
         ensures memory { Makes (carrying (M.meaning measure) units) units messages (make_refusal units messages (has_rooms units messages clocks.old flags.old values.old posts.old)) (lent clocks.old flags.old values.old posts.old) (lent clocks.new flags.new values.new posts.new) }
-        ensures clocks_memory { SameMemory clocks.old clocks.new }
-        ensures flags_memory { SameMemory flags.old flags.new }
-        ensures values_memory { SameMemory values.old values.new }
+        ensures clocks_loan { SameLoan clocks.old clocks.new }
+        ensures flags_loan { SameLoan flags.old flags.new }
+        ensures values_loan { SameLoan values.old values.new }
     {
         let size = Board::sized(units, messages)?;
         if !size.fits(values) {
@@ -70,9 +73,9 @@ impl<M: Measure> MeasuredBoard<M> {
         message: usize,
     ) -> Result<Clock, Refusal>
         ensures follows { Obeys (M.meaning self.now.measure) self.now.board.units self.now.board.messages (call unit (send message)) (has_rooms self.now.board.units self.now.board.messages clocks.old flags.old values.old posts.old) (lent clocks.old flags.old values.old posts.old) (lent clocks.new flags.new values.new posts.new) (clock_told result) }
-        ensures clocks_memory { SameMemory clocks.old clocks.new }
-        ensures flags_memory { SameMemory flags.old flags.new }
-        ensures values_memory { SameMemory values.old values.new }
+        ensures clocks_loan { SameLoan clocks.old clocks.new }
+        ensures flags_loan { SameLoan flags.old flags.new }
+        ensures values_loan { SameLoan values.old values.new }
     {
         if !self.board.fits(values) {
             return Err(Refusal::MemoryTooShort);
@@ -93,9 +96,9 @@ impl<M: Measure> MeasuredBoard<M> {
         message: usize,
     ) -> Result<Clock, Refusal>
         ensures follows { Obeys (M.meaning self.now.measure) self.now.board.units self.now.board.messages (call unit (receive message)) (has_rooms self.now.board.units self.now.board.messages clocks.old flags.old values.old posts.old) (lent clocks.old flags.old values.old posts.old) (lent clocks.new flags.new values.new posts.new) (clock_told result) }
-        ensures clocks_memory { SameMemory clocks.old clocks.new }
-        ensures flags_memory { SameMemory flags.old flags.new }
-        ensures values_memory { SameMemory values.old values.new }
+        ensures clocks_loan { SameLoan clocks.old clocks.new }
+        ensures flags_loan { SameLoan flags.old flags.new }
+        ensures values_loan { SameLoan values.old values.new }
     {
         if !self.board.fits(values) {
             return Err(Refusal::MemoryTooShort);
@@ -119,9 +122,9 @@ impl<M: Measure> MeasuredBoard<M> {
         label: u8,
     ) -> Result<Marked<M::Value>, Refusal>
         ensures follows { Obeys (M.meaning self.now.measure) self.now.board.units self.now.board.messages (call unit (mark label)) (has_rooms self.now.board.units self.now.board.messages clocks.old flags.old values.old posts.now) (lent clocks.old flags.old values.old posts.now) (lent clocks.new flags.new values.new posts.now) (mark_told result) }
-        ensures clocks_memory { SameMemory clocks.old clocks.new }
-        ensures flags_memory { SameMemory flags.old flags.new }
-        ensures values_memory { SameMemory values.old values.new }
+        ensures clocks_loan { SameLoan clocks.old clocks.new }
+        ensures flags_loan { SameLoan flags.old flags.new }
+        ensures values_loan { SameLoan values.old values.new }
     {
         if !self.board.fits(values) {
             return Err(Refusal::MemoryTooShort);
@@ -150,7 +153,7 @@ impl<M: Measure> MeasuredBoard<M> {
         label: u8,
     ) -> M::Value
         requires { has_row values.now row ≡ true }
-        ensures { (n u : ℕ) → predecessors < 2 ^ n → result ≡ worth (M.meaning self.now.measure) n (members predecessors (M.meaning self.now.measure).start (row_of values.now.cells.now values.now.width row)) u label }
+        ensures { (n u : ℕ) → predecessors < 2 ^ n → result ≡ worth (M.meaning self.now.measure) n (flagged_by predecessors (M.meaning self.now.measure).start (row_of values.now.cells.now values.now.width row)) u label }
     {
         match values.row(row) {
             Ok(values) => mark_value(&self.measure, predecessors, values, label),
@@ -206,9 +209,9 @@ impl<J: Judge> MeasuredBoard<J> {
     ) -> Result<JudgedMark<J::Value>, Refusal>
         ensures follows { Obeys (J.Measure.meaning self.now.measure) self.now.board.units self.now.board.messages (call unit (mark label)) (has_rooms self.now.board.units self.now.board.messages clocks.old flags.old values.old posts.now) (lent clocks.old flags.old values.old posts.now) (lent clocks.new flags.new values.new posts.now) (judged_told result) }
         ensures verdict { IfOk result (λ r. (r.verdict.some ≡ J.Judge.some_of self.now.measure r.mark.value) × (r.verdict.all ≡ J.Judge.all_of self.now.measure r.mark.value) × MarksGood (J.Measure.meaning self.now.measure) (J.Judge.some_of self.now.measure) (J.Judge.all_of self.now.measure) (J.Judge.good self.now.measure)) }
-        ensures clocks_memory { SameMemory clocks.old clocks.new }
-        ensures flags_memory { SameMemory flags.old flags.new }
-        ensures values_memory { SameMemory values.old values.new }
+        ensures clocks_loan { SameLoan clocks.old clocks.new }
+        ensures flags_loan { SameLoan flags.old flags.new }
+        ensures values_loan { SameLoan values.old values.new }
     {
         let mark = self.mark(clocks, flags, values, posts, unit, label)?;
         let verdict = verdicts(&self.measure, mark.value);

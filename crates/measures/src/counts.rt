@@ -1,7 +1,7 @@
 // The flow count: how many flows end at a mark.
 ghost use Rattle.std.specs.Prelude.{◌≡◌, ◌^◌, ◌<◌, IfOk, Some, None, MatchResult};
 ghost use Rattle.measures.specs.Counts.{flow_count, flow_count_lawful, MarksCounted};
-ghost use Rattle.measures.specs.Refusals.{count_refusal};
+ghost use Rattle.measures.specs.Refusals.{flow_count_refusal};
 
 use super::Measure;
 use super::refusals::Refusal;
@@ -17,7 +17,7 @@ impl FlowCount {
     // Refuses a label count outside 1 to 64. Whatever calls a board was handed, the value answered at a mark is the number of the longest
     // flows that end there (`runs`).
     pub fn new(labels: u8) -> Result<FlowCount, Refusal>
-        ensures answer { MatchResult result (λ m. (count_refusal labels ≡ None) × (m.labels.number ≡ labels)) (λ e. count_refusal labels ≡ Some e) }
+        ensures answer { MatchResult result (λ m. (flow_count_refusal labels ≡ None) × (m.labels.number ≡ labels)) (λ e. flow_count_refusal labels ≡ Some e) }
         ensures runs { IfOk result (λ m. MarksCounted (flow_count m.labels.number)) }
     {
         let labels = Count::new(labels).ok_or(Refusal::LabelCount)?;

@@ -1,6 +1,7 @@
 // Measures of the flows that end at a mark, judges of their words, and the board under a measure, with the law of what it answers.
 // A unit is one process of a handset; a mark is an event that it shows, with a label;
 // a flow is a chain of marks, each an immediate predecessor of the next, and its word is the list of their labels.
+// Stands on `causality`, whose boards it extends by values, and on what is below it.
 #![tactic(auto)]
 
 ghost use Rattle.std.specs.Prelude.{◌≡◌};
@@ -8,6 +9,7 @@ ghost use Rattle.measures.specs.Laws.{LawOfRuns};
 ghost use Rattle.measures.specs.Measures.{Meaning, Lawful, carried, Carries};
 
 pub mod boards;
+pub mod calls;
 pub mod counts;
 pub mod judges;
 pub mod marking;
@@ -21,6 +23,7 @@ pub mod spans;
 mod tables;
 
 pub use boards::{JudgedMark, MeasuredBoard};
+pub use calls::{Answer, Call, Event};
 pub use counts::FlowCount;
 pub use judges::{Judge, Verdict, verdicts};
 pub use marking::mark_value;
@@ -28,7 +31,7 @@ pub use merging::{merge_value, merge_values};
 pub use patterns::Pattern;
 pub use refusals::{Fault, Refusal};
 pub use relabellings::Relabelling;
-pub use replays::{Answer, Call, Event, replay};
+pub use replays::replay;
 pub use spans::{Ends, Span};
 
 // A measure: a number of labels, a start value, a step from a value by a label and a join of two values,
@@ -50,12 +53,11 @@ pub trait Measure {
     fn start(&self) -> Self::Value
         ensures { result ≡ (meaning self.now).start };
 
-    // The value after one more label. A measure whose step uses the label asks itself whether it has it: a guard in the trait would
-    // be a second step, and no plainer.
+    // The value after one more label. A label that the measure does not have leaves the value, which each measure sees to.
     fn step(&self, v: Self::Value, l: u8) -> Self::Value
         ensures { result ≡ (meaning self.now).step v l };
 
-    // The value of the words of both.
+    // The value of all words of which a or b is the value.
     fn join(&self, a: Self::Value, b: Self::Value) -> Self::Value
         ensures { result ≡ (meaning self.now).join a b };
 

@@ -1,6 +1,7 @@
 // What a mark is worth: the values of the flows that go on through it.
 ghost use Rattle.std.specs.Prelude.{◌≡◌, ℕ, ◌^◌, ◌<◌, Some};
-ghost use Rattle.measures.specs.Worths.{plus, gathered, members, worth};
+ghost use Rattle.measures.specs.Worths.{plus, gathered, worth};
+ghost use Rattle.measures.specs.Calls.{flagged_by};
 
 use super::Measure;
 use bitset::split_lowest;
@@ -18,7 +19,7 @@ fn joined_to<M: Measure>(m: &M, before: Option<M::Value>, v: M::Value) -> M::Val
 
 // The values of the members of a set, joined in rising order, or none of the empty set. A value that is not there counts as the start.
 fn gather<M: Measure>(m: &M, set: u64, values: &[M::Value]) -> Option<M::Value>
-    ensures { (n : ℕ) → set < 2 ^ n → result ≡ gathered (M.meaning m.now) (members set (M.meaning m.now).start values.now) n }
+    ensures { (n : ℕ) → set < 2 ^ n → result ≡ gathered (M.meaning m.now) (flagged_by set (M.meaning m.now).start values.now) n }
 {
     let mut rest = set;
     let mut all = None;
@@ -30,10 +31,10 @@ fn gather<M: Measure>(m: &M, set: u64, values: &[M::Value]) -> Option<M::Value>
 }
 
 // What a mark with label l is worth, by the set of the units that have an immediate predecessor of it and the values of its unit's row
-// before it: the values of the set's members, joined in rising order, or the start if there are none, and then stepped by the label. It is
-// the same on every board that has these units, as one of 64 always has, and which unit makes the mark does not matter.
+// before it: the values of the set's members, joined in rising order, or the start if there are none, and then stepped by the label. In
+// the promise n is any number of units above all of these, and u any unit: the value depends on neither.
 pub fn mark_value<M: Measure>(m: &M, predecessors: u64, values: &[M::Value], l: u8) -> M::Value
-    ensures { (n u : ℕ) → predecessors < 2 ^ n → result ≡ worth (M.meaning m.now) n (members predecessors (M.meaning m.now).start values.now) u l }
+    ensures { (n u : ℕ) → predecessors < 2 ^ n → result ≡ worth (M.meaning m.now) n (flagged_by predecessors (M.meaning m.now).start values.now) u l }
 {
     let gathered = gather(m, predecessors, values).unwrap_or(m.start());
     m.step(gathered, l)

@@ -1,6 +1,6 @@
 // The values of rows, merged with the rows' clocks and flags.
 ghost use Rattle.std.specs.Prelude.{◌≡◌, ◌+◌, ◌*◌, ◌<◌, length, if◌then◌else◌, IfOk, is_ok, slice_set};
-ghost use Rattle.grid.specs.Grids.{row_pair, LieWithin, SameMemory};
+ghost use Rattle.grid.specs.Grids.{row_pair, LieWithin, SameLoan};
 ghost use Rattle.history.specs.Rows.{merged_cell};
 ghost use Rattle.causality.specs.Merging.{cell, merged};
 ghost use Rattle.measures.specs.Merging.{ask_value_rows, merged_values};
@@ -18,7 +18,7 @@ pub fn merge_value<M: Measure>(m: &M, own: Cell<M::Value>, other: Cell<M::Value>
 }
 
 // Merges the value of cell j of row `from` into that of row `to`; the other row's cell is taken out by value first.
-// No twin of the column of clocks and flags: that one writes what this one reads, and each memory is lent on its own.
+// It reads clocks and flags as they were: these are merged after it.
 #[tactic(auto, using(grid::proofs::Cells::put_at))]
 fn merge_value_column<M: Measure>(
     m: &M,
@@ -58,8 +58,7 @@ fn value_rows_to_merge<V: Copy>(
 }
 
 // Merges the values of row `from`, a message's, into row `to`, a unit's, by the rows' clocks and flags before these are merged. What is
-// refused changes nothing. Grids and loop are as in `merge_rows`, and for the same rules; no twin of it, since this one reads clocks and
-// flags, which that one writes, and writes values alone.
+// refused changes nothing. Grids and loop are as in `merge_rows`, by the same rules of the project.
 pub fn merge_values<M: Measure>(
     m: &M,
     clocks: &Grid<'_, Clock>,
@@ -70,7 +69,7 @@ pub fn merge_values<M: Measure>(
 ) -> Result<(), GridError>
     ensures answer { result ≡ ask_value_rows clocks.now flags.now values.old from to (Ok tt) }
     ensures values { values.new.cells.now ≡ (if is_ok result then merged_values (M.meaning m.now).start clocks.now.cells.now flags.now.cells.now values.old.cells.now (row_pair clocks.now from to) else values.old.cells.now) }
-    ensures memory { SameMemory values.old values.new }
+    ensures loan { SameLoan values.old values.new }
 {
     let rows = value_rows_to_merge(clocks, flags, values, from, to)?;
     for j in 0..rows.width {

@@ -2,7 +2,7 @@
 ghost use Rattle.std.specs.Prelude.{◌≡◌, ℕ, ◌*◌, ◌^◌, ◌<◌, ◌≤◌, slice_index};
 ghost use Rattle.bitset.specs.Sets.{Member, meets, within};
 ghost use Rattle.measures.specs.Automata.{state_sets, next, leads};
-ghost use Rattle.measures.specs.Accepting.{state_sets_lawful};
+ghost use Rattle.measures.specs.StateSetLaws.{state_sets_lawful};
 
 use super::Measure;
 use super::judges::Judge;

@@ -4,7 +4,7 @@ ghost use Rattle.measures.specs.Refusals.{number, fault};
 
 use thiserror::Error;
 
-// The answers no, each with the number by which reports and documents name it.
+// The refusals, each with its number.
 #[derive(Clone, Copy, PartialEq, Eq, Debug, Error)]
 pub enum Refusal {
     #[error("fewer than twelve bytes")]

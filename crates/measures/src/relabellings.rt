@@ -1,8 +1,8 @@
 // The relabelling: any measure, stepped by the labels that a table gives for its own.
 ghost use Rattle.std.specs.Prelude.{◌≡◌, ◌+◌, ◌<◌, ◌≤◌, length, Some, None, MatchResult};
-ghost use Rattle.measures.specs.Formats.{count_fault, relabelling_fault, count_in, entries_in, padded};
+ghost use Rattle.measures.specs.Formats.{relabelling_head_fault, relabelling_fault, relabelling_labels_in, entries_in, padded};
 ghost use Rattle.measures.specs.Relabellings.{translated_label, translated, relabelled};
-ghost use Rattle.measures.specs.Translating.{relabelled_lawful};
+ghost use Rattle.measures.specs.RelabellingLaws.{relabelled_lawful};
 
 use super::Measure;
 use super::judges::Judge;
@@ -25,7 +25,7 @@ pub struct Relabelling<M: Measure> {
 }
 
 impl LabelTable {
-    // The entry of l, or 0 where that is none of the n inner labels: the rule of a relabelling, and no sign that something is missing.
+    // The entry of l, or 0 where that is none of the n inner labels; a relabelling that was read has no such entry.
     fn inner_label(&self, l: u8, n: u8) -> u8
         requires { l < self.now.count.number }
         ensures { result ≡ translated_label self.now.entries n l }
@@ -36,7 +36,7 @@ impl LabelTable {
 
     // The label count of the table at the front of the rest.
     fn read_count(rest: Rest<'_>) -> Result<Count, Fault>
-        ensures { MatchResult result (λ n. (count_fault rest.entry.input.now rest.entry.place ≡ None) × (n.number ≡ count_in rest.entry.input.now rest.entry.place) × (rest.entry.place + 2 ≤ length rest.entry.input.now)) (λ f. count_fault rest.entry.input.now rest.entry.place ≡ Some f) }
+        ensures { MatchResult result (λ n. (relabelling_head_fault rest.entry.input.now rest.entry.place ≡ None) × (n.number ≡ relabelling_labels_in rest.entry.input.now rest.entry.place) × (rest.entry.place + 2 ≤ length rest.entry.input.now)) (λ f. relabelling_head_fault rest.entry.input.now rest.entry.place ≡ Some f) }
     {
         match rest.bytes() {
             Some([0x30]) => Err(Fault::at(Refusal::TableTooShort, rest.input.len())),
@@ -49,7 +49,7 @@ impl LabelTable {
 
     // The table at the front of the rest.
     fn read(rest: Rest<'_>, n: u8) -> Result<LabelTable, Fault>
-        ensures { MatchResult result (λ t. (relabelling_fault rest.entry.input.now rest.entry.place n ≡ None) × (t.count.number ≡ count_in rest.entry.input.now rest.entry.place) × (t.entries ≡ padded 64 (entries_in rest.entry.input.now rest.entry.place))) (λ f. relabelling_fault rest.entry.input.now rest.entry.place n ≡ Some f) }
+        ensures { MatchResult result (λ t. (relabelling_fault rest.entry.input.now rest.entry.place n ≡ None) × (t.count.number ≡ relabelling_labels_in rest.entry.input.now rest.entry.place) × (t.entries ≡ padded 64 (entries_in rest.entry.input.now rest.entry.place))) (λ f. relabelling_fault rest.entry.input.now rest.entry.place n ≡ Some f) }
     {
         let count = Self::read_count(rest)?;
         let after = Rest {
@@ -65,11 +65,11 @@ impl LabelTable {
 }
 
 impl<M: Measure> Relabelling<M> {
-    // The relabelling to the labels of `inner` whose bytes begin at the byte `at` of the input: the two as callers have them.
+    // The relabelling to the labels of `inner` whose bytes begin at the byte `at` of the input.
     pub fn read(input: &[u8], at: usize, inner: M) -> Result<Relabelling<M>, Fault>
     where
         M: Drop,
-        ensures { MatchResult result (λ m. (relabelling_fault input.now at (M.meaning inner).labels ≡ None) × (m.table.count.number ≡ count_in input.now at) × (m.table.entries ≡ padded 64 (entries_in input.now at)) × (m.inner ≡ inner)) (λ f. relabelling_fault input.now at (M.meaning inner).labels ≡ Some f) }
+        ensures { MatchResult result (λ m. (relabelling_fault input.now at (M.meaning inner).labels ≡ None) × (m.table.count.number ≡ relabelling_labels_in input.now at) × (m.table.entries ≡ padded 64 (entries_in input.now at)) × (m.inner ≡ inner)) (λ f. relabelling_fault input.now at (M.meaning inner).labels ≡ Some f) }
     {
         let rest = Rest { input, place: at };
         let table = LabelTable::read(rest, inner.labels())?;

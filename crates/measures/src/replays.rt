@@ -1,70 +1,20 @@
 // A whole list of calls, handed to a board just made.
 ghost use Rattle.std.specs.Prelude.{◌≡◌, ◌<◌, true, [], length, map, min, take, Some, None, Err, IfOk, MatchResult};
-ghost use Rattle.grid.specs.Grids.{SameMemory};
+ghost use Rattle.grid.specs.Grids.{SameLoan};
 ghost use Rattle.history.specs.declared.refusals.Refusal.TheVariants.{MemoryTooShort};
 ghost use Rattle.causality.specs.Boards.{SameFrom, SameBeyond, make_refusal};
-ghost use Rattle.measures.specs.Boards.{Obeys, lent, has_rooms, Played, LawOfBoards};
-ghost use Rattle.measures.specs.Replays.{handed, told, Replayed};
+ghost use Rattle.measures.specs.Boards.{Played, LawOfBoards};
+ghost use Rattle.measures.specs.Calls.{lent, has_rooms, handed, told};
+ghost use Rattle.measures.specs.Replays.{Replayed};
 
 use super::Measure;
 use super::boards::MeasuredBoard;
-use causality::{Clock, Marked};
+use super::calls::{Answer, Call};
+use causality::Clock;
 use grid::{Grid, put};
 use history::{Post, Refusal};
 
-// What a unit does: send a message, receive one, or make a mark with a label.
-#[derive(Clone, Copy, PartialEq, Eq, Debug)]
-pub enum Event {
-    Send(usize),
-    Receive(usize),
-    Mark(u8),
-}
-
-// A call: a unit, and what it does.
-#[derive(Clone, Copy, PartialEq, Eq, Debug)]
-pub struct Call {
-    pub unit: usize,
-    pub event: Event,
-}
-
-// What an accepted call is answered: a send or a receipt its unit's own clock, a mark what marks are told.
-#[derive(Clone, Copy, PartialEq, Eq, Debug)]
-pub enum Answer<V> {
-    OwnClock(Clock),
-    Marked(Marked<V>),
-}
-
 impl<M: Measure> MeasuredBoard<M> {
-    // Hands one call to the board.
-    pub fn hand(
-        &self,
-        clocks: &mut Grid<'_, Clock>,
-        flags: &mut Grid<'_, bool>,
-        values: &mut Grid<'_, M::Value>,
-        posts: &mut [Post],
-        call: Call,
-    ) -> Result<Answer<M::Value>, Refusal>
-        ensures follows { Obeys (M.meaning self.now.measure) self.now.board.units self.now.board.messages (handed call) (has_rooms self.now.board.units self.now.board.messages clocks.old flags.old values.old posts.old) (lent clocks.old flags.old values.old posts.old) (lent clocks.new flags.new values.new posts.new) (told result) }
-        ensures clocks_memory { SameMemory clocks.old clocks.new }
-        ensures flags_memory { SameMemory flags.old flags.new }
-        ensures values_memory { SameMemory values.old values.new }
-    {
-        match call.event {
-            Event::Send(message) => {
-                let own = self.send(clocks, flags, values, posts, call.unit, message)?;
-                Ok(Answer::OwnClock(own))
-            }
-            Event::Receive(message) => {
-                let own = self.receive(clocks, flags, values, posts, call.unit, message)?;
-                Ok(Answer::OwnClock(own))
-            }
-            Event::Mark(label) => {
-                let marked = self.mark(clocks, flags, values, posts, call.unit, label)?;
-                Ok(Answer::Marked(marked))
-            }
-        }
-    }
-
     // Hands a list of calls to a board that is just made, in order, as many as there are places for answers. Answers their number.
     fn play(
         &self,
@@ -78,9 +28,9 @@ impl<M: Measure> MeasuredBoard<M> {
         requires room { has_rooms self.now.board.units self.now.board.messages clocks.old flags.old values.old posts.old ≡ true }
         requires new_board { Played (M.meaning self.now.measure) self.now.board.units self.now.board.messages [] [] (lent clocks.old flags.old values.old posts.old) }
         ensures played { Replayed (M.meaning self.now.measure) self.now.board.units self.now.board.messages calls.now result (lent clocks.old flags.old values.old posts.old) (lent clocks.new flags.new values.new posts.new) answers.old answers.new }
-        ensures clocks_memory { SameMemory clocks.old clocks.new }
-        ensures flags_memory { SameMemory flags.old flags.new }
-        ensures values_memory { SameMemory values.old values.new }
+        ensures clocks_loan { SameLoan clocks.old clocks.new }
+        ensures flags_loan { SameLoan flags.old flags.new }
+        ensures values_loan { SameLoan values.old values.new }
     {
         let count = calls.len().min(answers.len());
         for i in 0..count {
@@ -112,9 +62,9 @@ where
     M: Drop,
     ensures replayed { MatchResult result (λ count. (make_refusal units messages (has_rooms units messages clocks.old flags.old values.old posts.old) ≡ None) × Replayed (M.meaning measure) units messages calls.now count (lent clocks.old flags.old values.old posts.old) (lent clocks.new flags.new values.new posts.new) answers.old answers.new) (λ e. (make_refusal units messages (has_rooms units messages clocks.old flags.old values.old posts.old) ≡ Some e) × (lent clocks.new flags.new values.new posts.new ≡ lent clocks.old flags.old values.old posts.old) × (answers.new ≡ answers.old)) }
     ensures law { LawOfBoards (M.meaning measure) (M.admits measure) }
-    ensures clocks_memory { SameMemory clocks.old clocks.new }
-    ensures flags_memory { SameMemory flags.old flags.new }
-    ensures values_memory { SameMemory values.old values.new }
+    ensures clocks_loan { SameLoan clocks.old clocks.new }
+    ensures flags_loan { SameLoan flags.old flags.new }
+    ensures values_loan { SameLoan values.old values.new }
 {
     let board = MeasuredBoard::make(measure, units, messages, clocks, flags, values, posts)?;
     Ok(board.play(clocks, flags, values, posts, calls, answers))

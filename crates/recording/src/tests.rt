@@ -1,10 +1,10 @@
 // Reports as they are written, byte for byte.
-use super::reports::report;
+use reports::report;
 use std::process::Abort;
 use std::test::Fail;
 
 // A pattern of 5 states and 3 labels, in 27 bytes; and the relabelling after it: label 0 is waiting, 1 sound and 2 beacon.
-// A flow is good if it ends with a sound that follows a beacon heard while waiting.
+// A flow is good if it is made of rounds, one or more: a waiting, then waitings and beacons of which the last is a beacon, then a sound.
 const FRONT: [u8; 32] = [
     0x20, 5, 3, 0, 0x08, 0, 0, 0, 0, 0, 0, 0, 4, 1, 4, 2, 1, 4, 2, 1, 3, 4, 1, 4, 4, 4, 4, 0x30, 3,
     1, 2, 0,

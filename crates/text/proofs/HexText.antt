@@ -1,14 +1,13 @@
--- The 16 digits of a word: as a format with a width writes them, as the digits of its bytes, and read back.
-use Rattle.std.proofs.Common.{◌≡◌, ℕ, zero, suc, ◌+◌, ◌-◌, ◌*◌, ◌/◌, ◌%◌, ◌^◌, ◌<◌, ◌≤◌, ◌==◌, Bool, true, false, ◌&&◌, List, [], ◌∷◌, ◌++◌, length, replicate, slice_index, if◌then◌else◌, inl, inr, sym, refl, ap, ap₂, ◌∙◌, append_assoc, append-nil, add_assoc, mul_assoc, add-mul, pow-suc, arith, lit<, lit≤, eqb-true}
+-- The 16 digits of a word: read back, as a format with a width writes them, and as the digits of its bytes.
+use Rattle.std.proofs.Common.{◌≡◌, ℕ, zero, suc, ◌+◌, ◌-◌, ◌*◌, ◌/◌, ◌%◌, ◌^◌, ◌<◌, ◌≤◌, ◌==◌, Bool, true, false, List, [], ◌∷◌, ◌++◌, length, replicate, if◌then◌else◌, sym, refl, ap, ap₂, ◌∙◌, append_assoc, append-nil, add_assoc, mul_assoc, add-mul, arith, lit<, lit≤, eqb-true}
 use native.Mathlib.Nat.{div-div-eq-div-mul, one-le-pow, pow-succ', zero-div}
 use lib.Arith.{mod-mul}
-use Rattle.std.proofs.lemmas.Bool.{and_parts, cases_lt, eqb-false}
+use Rattle.std.proofs.lemmas.Bool.{eqb-false}
 use Rattle.std.proofs.lemmas.Bool.Decides.{nat_tests}
 use Rattle.std.specs.Str.Parse.{digits_value, digits_value_after}
 use Rattle.std.specs.Char.{digit_value as char_value}
 use Rattle.std.specs.Fmt.{digits, digits_onto, padded_integral, format_spec, char_count}
-use Rattle.std.specs.Int.{w64, byte_at, bytes_high_first, to_be_bytes}
-use Rattle.hex.specs.Hex.{encode_lower, encode_with, lower_digits}
+use Rattle.std.specs.Int.{byte_at}
 use Rattle.text.specs.Hex.{digit_in_hex, hex, hex_word}
 
 -- ---- read back
@@ -108,26 +107,6 @@ padded_word v h =
 
 -- ---- the digits of bytes
 
--- Whether the table has the byte of each digit below n at its place.
-abbrev same_below : ℕ → Bool
-same_below zero = true
-same_below (suc n) = slice_index lower_digits n == digit_in_hex n && same_below n
-
-same_at : (n d : ℕ) → same_below n ≡ true → d < n → slice_index lower_digits d ≡ digit_in_hex d
-same_at zero d same h = absurd (omega arith)
-same_at (suc n) d same h =
-    let parts = and_parts (slice_index lower_digits n == digit_in_hex n) (same_below n) same in
-    elim (cases_lt d n) [
-      | inl below ↦ same_at n d parts.1 below
-      | inr top ↦
-          let e : d ≡ n = omega arith in
-          rw e (eqb-true (slice_index lower_digits n) (digit_in_hex n) parts.0)
-    ]
-
--- A byte of the table is that of its place as a digit.
-table_digit : (d : ℕ) → d < 16 → slice_index lower_digits d ≡ digit_in_hex d
-table_digit d h = same_at 16 d refl h
-
 -- A byte is two digits.
 pow_pairs : (k : ℕ) → 256 ^ k ≡ 16 ^ (k * 2)
 pow_pairs zero = refl
@@ -139,26 +118,3 @@ pow_pairs (suc k) =
 pub byte_is : (k v : ℕ) → byte_at k v ≡ v / 16 ^ (k * 2) % 256
 byte_is zero v = omega arith
 byte_is (suc k) v = ap (λ p. v / p % 256) (pow_pairs (suc k))
-
--- The digits of the last k bytes of v are its last 2 * k digits.
-encode_bytes : (k v : ℕ) → encode_with lower_digits (bytes_high_first k v) ≡ hex (k * 2) v
-unfolding encode_with
-encode_bytes zero v = refl
-encode_bytes (suc k) v =
-    let b = byte_at k v in
-    let x = v / 16 ^ (k * 2) in
-    let is : b ≡ x % 256 = byte_is k v in
-    let up : x / 16 ≡ v / 16 ^ suc (k * 2) = div-div-eq-div-mul v (16 ^ (k * 2)) 16 ∙ ap (λ p. v / p) (sym (pow-suc 16 (k * 2))) in
-    let high : b / 16 ≡ v / 16 ^ suc (k * 2) % 16 = omega arith in
-    let low : b % 16 ≡ x % 16 = omega arith in
-    let two : suc k * 2 ≡ suc (suc (k * 2)) = omega arith in
-    ap₂ (λ c d. c ∷ d ∷ encode_with lower_digits (bytes_high_first k v))
-    (table_digit (b / 16) (omega arith) ∙ ap digit_in_hex high)
-    (table_digit (b % 16) (omega arith) ∙ ap digit_in_hex low)
-    ∙ ap (λ ds. digit_in_hex (v / 16 ^ suc (k * 2) % 16) ∷ digit_in_hex (x % 16) ∷ ds) (encode_bytes k v)
-    ∙ ap (λ j. hex j v) (sym two)
-
--- The digits of a word are those of its eight bytes, the highest first.
-pub word_bytes : (v : ℕ) → encode_lower (to_be_bytes w64 v) ≡ hex_word v
-unfolding hex_word
-word_bytes v = encode_bytes 8 v

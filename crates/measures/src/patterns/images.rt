@@ -17,7 +17,6 @@ impl Pattern {
     }
 
     // The states to which the table takes the members of the set that are states, under the label l.
-    #[tactic(auto, using(crate::specs::Images::image_is))]
     pub(super) fn image(&self, set: u64, l: u8) -> u64
         requires { l < self.now.head.labels.number }
         ensures value { result ≡ image (next self.now.head.labels.number self.now.table l) self.now.head.states.number set }

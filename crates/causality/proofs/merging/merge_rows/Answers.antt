@@ -13,8 +13,8 @@ loop-j-preserved c =
     record {
       clocks = clocks_more cs _ fs _ r.rows l.j r.ensures.clocks r.ensures.flags (omega arith) l.invariant.clocks l.invariant.flags _ c.merge_column.ensures.clocks;
       flags = flags_more cs _ fs _ r.rows l.j r.ensures.clocks r.ensures.flags (omega arith) l.invariant.clocks l.invariant.flags _ c.merge_column.ensures.flags;
-      clocks_memory = search rules;
-      flags_memory = search rules;
+      clocks_loan = search rules;
+      flags_loan = search rules;
     }
 
 pub returns-clause-flags : goal.returns-clause-flags

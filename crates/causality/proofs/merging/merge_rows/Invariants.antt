@@ -1,5 +1,5 @@
 use Rattle.std.proofs.Common.{◌≡◌}
-use Rattle.grid.specs.Grids.{SameMemory, with_cells}
+use Rattle.grid.specs.Grids.{SameLoan, with_cells}
 use Rattle.causality.specs.Merging.{merged_bare}
 use Rattle.causality.proofs.merging.merge_rows.Given as goal
 
@@ -10,6 +10,6 @@ invariant-loop-j l =
     record {
       clocks : l.clocks.cells.now ≡ with_cells l.initial.clocks.cells.now l.rows (λ j. (merged j).clock) l.j;
       flags : l.flags.cells.now ≡ with_cells l.initial.flags.cells.now l.rows (λ j. (merged j).flag) l.j;
-      clocks_memory : SameMemory l.initial.clocks l.clocks;
-      flags_memory : SameMemory l.initial.flags l.flags;
+      clocks_loan : SameLoan l.initial.clocks l.clocks;
+      flags_loan : SameLoan l.initial.flags l.flags;
     }

@@ -1,5 +1,5 @@
 use Rattle.std.proofs.Common.{◌≡◌}
-use Rattle.grid.specs.Grids.{SameMemory, with_cells}
+use Rattle.grid.specs.Grids.{SameLoan, with_cells}
 use Rattle.causality.specs.Merging.{merged}
 use Rattle.measures.proofs.merging.merge_values.Given as goal
 
@@ -9,5 +9,5 @@ invariant-loop-j g l =
     let values = l.initial.values.cells.now in
     record {
       values : l.values.cells.now ≡ with_cells values l.rows (λ j. (merged (g.M.Measure.meaning l.m).start l.clocks.cells.now l.flags.cells.now values l.rows j).value) l.j;
-      memory : SameMemory l.initial.values l.values;
+      memory : SameLoan l.initial.values l.values;
     }

@@ -1,6 +1,6 @@
 use Rattle.std.proofs.Common.{subst, sym}
 use Rattle.causality.specs.Boards.{Makes, make_refusal}
-use Rattle.measures.specs.Boards.{lent, has_rooms}
+use Rattle.measures.specs.Calls.{lent, has_rooms}
 use Rattle.measures.specs.Replays.{Replayed}
 use Rattle.measures.specs.Worths.{carrying}
 use Rattle.measures.proofs.BoardLaw.{law_of_boards}

@@ -12,6 +12,6 @@ returns-clause-follows c fits l labelled =
     let (r, below) = mark_taken n k a.clocks.now a.flags.now a.posts.now a.unit c.in_ok-own.ensures.answer.0 in
     noted n k a.unit l fits labelled a.clocks.now a.flags.now a.posts.now r below _ _ _ _
     (put_cell r.of_clocks 0 _ c.set_cell.result a.unit a.unit _ (omega (arith, r.unit)) r.unit (assumption c.set_cell.ensures) (assumption c.set_cell.ensures))
-    (reset r.of_flags c.fill_row.ensures.memory false false true _ c.fill_row.result c.set_cell-2.result a.unit a.unit (omega (arith, r.unit)) r.unit (assumption c.fill_row.ensures) (assumption c.fill_row.ensures) (assumption c.set_cell-2.ensures) (assumption c.set_cell-2.ensures))
+    (reset r.of_flags c.fill_row.ensures.loan false false true _ c.fill_row.result c.set_cell-2.result a.unit a.unit (omega (arith, r.unit)) r.unit (assumption c.fill_row.ensures) (assumption c.fill_row.ensures) (assumption c.set_cell-2.ensures) (assumption c.set_cell-2.ensures))
     (let own = c.in_ok-own.ensures.answer.1 in omega arith)
     (flagged_row r.of_flags (omega arith) a.unit (omega (arith, r.unit)) _ (assumption c.flagged-predecessors.ensures))

@@ -2,7 +2,7 @@ use Rattle.std.proofs.Common.{◌≡◌, ◌+◌, ◌*◌, true, ◌∙◌, sym,
 use Rattle.causality.specs.Boards.{fits_board, make_refusal, has_room}
 use Rattle.causality.proofs.Calling.{room_of}
 use Rattle.causality.proofs.Making.{Filled, filled_rows}
-use Rattle.measures.specs.Boards.{lent}
+use Rattle.measures.specs.Calls.{lent}
 use Rattle.measures.proofs.Lifting.{made_under}
 use Rattle.measures.proofs.boards.MeasuredBoard.make.Goals as goal
 

@@ -1,12 +1,13 @@
 use Rattle.std.proofs.Common.{ℕ, ◌≡◌, ◌^◌, ◌<◌, true, Err, refl, ap, ◌∙◌, arith, rules}
 use Rattle.history.specs.Events.{mark}
-use Rattle.causality.specs.Boards.{call, fits_board}
+use Rattle.causality.specs.Boards.{fits_board}
+use Rattle.history.specs.Runs.{call}
 use Rattle.grid.specs.Rows.{row}
-use Rattle.measures.specs.Worths.{members, worth}
+use Rattle.measures.specs.Worths.{worth}
+use Rattle.measures.specs.Calls.{flagged_by, lent}
 use Rattle.causality.proofs.Calling.{room_of, unit_taken}
 use Rattle.causality.proofs.Writing.{reset}
 use Rattle.measures.specs.Measures.{fits}
-use Rattle.measures.specs.Boards.{lent}
 use Rattle.measures.proofs.Asking.{unit_refused, label_refused}
 use Rattle.measures.proofs.Lifting.{refused_obeys}
 use Rattle.measures.proofs.MarkedRows.{mark_obeys}
@@ -55,9 +56,9 @@ returns-clause-follows g c =
     let r = unit_taken n k a.clocks.now a.flags.now a.posts.now a.unit c.in_ok-ask_unit.ensures in
     let rv = room_of n k a.values.now room in
     let bare = c.in_ok-bare.ensures.follows (fits m) a.label (search rules) in
-    let worths : (w v : ℕ) → c.in_ok-bare.bare.predecessors < 2 ^ w → c.worth_in-value.result ≡ worth m w (members c.in_ok-bare.bare.predecessors m.start (row a.values.now.cells.now a.values.now.width a.unit)) v a.label =
+    let worths : (w v : ℕ) → c.in_ok-bare.bare.predecessors < 2 ^ w → c.worth_in-value.result ≡ worth m w (flagged_by c.in_ok-bare.bare.predecessors m.start (row a.values.now.cells.now a.values.now.width a.unit)) v a.label =
     assumption c.worth_in-value.ensures in
     mark_obeys m n k a.unit a.label a.clocks.now a.flags.now a.values.now a.posts.now room _ _ _ _ _ c.worth_in-value.result (assumption bare)
-    (λ small. worths n a.unit small ∙ ap (λ (v : ℕ). worth m n (members c.in_ok-bare.bare.predecessors m.start (row a.values.now.cells.now v a.unit)) a.unit a.label) rv.width)
+    (λ small. worths n a.unit small ∙ ap (λ (v : ℕ). worth m n (flagged_by c.in_ok-bare.bare.predecessors m.start (row a.values.now.cells.now v a.unit)) a.unit a.label) rv.width)
     c.start.result c.start.ensures
-    (reset rv c.fill_row.ensures.memory m.start c.start.result _ _ c.fill_row.result c.set_cell.result a.unit a.unit (omega (arith, r.unit)) r.unit (assumption c.fill_row.ensures) (assumption c.fill_row.ensures) (assumption c.set_cell.ensures) (assumption c.set_cell.ensures))
+    (reset rv c.fill_row.ensures.loan m.start c.start.result _ _ c.fill_row.result c.set_cell.result a.unit a.unit (omega (arith, r.unit)) r.unit (assumption c.fill_row.ensures) (assumption c.fill_row.ensures) (assumption c.set_cell.ensures) (assumption c.set_cell.ensures))

@@ -1,9 +1,9 @@
 use Rattle.std.proofs.Common.{set, ◌≡◌, ◌+◌, Bool, Err, map, take, get_or, subst, sym, arith}
 use Rattle.history.specs.declared.refusals.Refusal.TheVariants.{MemoryTooShort}
-use Rattle.measures.specs.declared.replays.Call.{Call}
-use Rattle.measures.specs.declared.replays.Event.TheVariants.{Send}
-use Rattle.measures.specs.Boards.{lent, Obeys, Played}
-use Rattle.measures.specs.Replays.{handed, told}
+use Rattle.measures.specs.declared.calls.Call.{Call}
+use Rattle.measures.specs.declared.calls.Event.TheVariants.{Send}
+use Rattle.measures.specs.Boards.{Obeys, Played}
+use Rattle.measures.specs.Calls.{lent, handed, told}
 use Rattle.measures.proofs.BoardLaw.{played_mapped}
 use Rattle.measures.proofs.Playing.{beyond_twice, memory_twice, set_below, room_kept}
 use Rattle.measures.proofs.boards.MeasuredBoard.play.Goals as goal
@@ -16,7 +16,7 @@ loop-i-preserved g c =
     let k = a.self.now.board.messages in
     let l = c.loop-i in
     let inv = l.invariant in
-    let room = room_kept m.start n k a.clocks.now l.clocks a.flags.now l.flags a.values.now l.values a.posts.now l.posts inv.clocks_memory inv.flags_memory inv.values_memory inv.beyond c.requires.room in
+    let room = room_kept m.start n k a.clocks.now l.clocks a.flags.now l.flags a.values.now l.values a.posts.now l.posts inv.clocks_loan inv.flags_loan inv.values_loan inv.beyond c.requires.room in
     let h = c.hand-answer.ensures in
     let f = h.follows in
     let put : c.put.new.part ≡ set l.answers l.i c.hand-answer.result = assumption c.put.ensures in
@@ -28,9 +28,9 @@ loop-i-preserved g c =
           (subst (λ (b : Bool). Obeys m n k (handed (get_or a.calls.now l.i first)) b (lent l.clocks l.flags l.values l.posts) (lent c.hand-answer.new.clocks c.hand-answer.new.flags c.hand-answer.new.values c.hand-answer.new.posts) (told c.hand-answer.result)) room f));
       beyond = beyond_twice inv.beyond f.beyond;
       rest = set_below (Err MemoryTooShort) c.min-count.result l.i _ _ _ _ c.loop-i-test.true inv.rest put;
-      clocks_memory = memory_twice inv.clocks_memory h.clocks_memory;
-      flags_memory = memory_twice inv.flags_memory h.flags_memory;
-      values_memory = memory_twice inv.values_memory h.values_memory;
+      clocks_loan = memory_twice inv.clocks_loan h.clocks_loan;
+      flags_loan = memory_twice inv.flags_loan h.flags_loan;
+      values_loan = memory_twice inv.values_loan h.values_loan;
     }
 
 pub returns-clause-played : goal.returns-clause-played

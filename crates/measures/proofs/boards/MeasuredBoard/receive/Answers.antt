@@ -3,7 +3,7 @@ use Rattle.history.specs.declared.messages.Handling.TheVariants.{Receiving}
 use Rattle.causality.specs.Boards.{fits_board}
 use Rattle.causality.proofs.Calling.{room_of, handling_taken}
 use Rattle.measures.specs.Measures.{fits}
-use Rattle.measures.specs.Boards.{lent}
+use Rattle.measures.specs.Calls.{lent}
 use Rattle.measures.proofs.Asking.{receive_refused}
 use Rattle.measures.proofs.Messages.{receive_asked, values_merged}
 use Rattle.measures.proofs.boards.MeasuredBoard.receive.Goals as goal

@@ -1,10 +1,11 @@
 use Rattle.std.proofs.Common.{◌≡◌, ◌+◌, true, Err, refl, arith, rules}
 use Rattle.history.specs.Events.{send}
-use Rattle.causality.specs.Boards.{call, fits_board}
+use Rattle.causality.specs.Boards.{fits_board}
+use Rattle.history.specs.Runs.{call}
 use Rattle.causality.proofs.Calling.{room_of}
 use Rattle.causality.proofs.Writing.{copied}
 use Rattle.measures.specs.Measures.{fits}
-use Rattle.measures.specs.Boards.{lent}
+use Rattle.measures.specs.Calls.{lent}
 use Rattle.measures.proofs.Lifting.{refused_obeys}
 use Rattle.measures.proofs.Messages.{send_taken, send_obeys}
 use Rattle.measures.proofs.boards.MeasuredBoard.send.Goals as goal

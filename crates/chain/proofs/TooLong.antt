@@ -1,0 +1,10 @@
+-- Of an input that is too long nothing else is told.
+use Rattle.std.proofs.Common.{◌≡◌, ℕ, false, List, length, nat_le, refl}
+use Rattle.text.specs.Inputs.{most_bytes}
+use Rattle.text.specs.Lines.{line_of}
+use Rattle.chain.specs.declared.lines.Stop.TheVariants.{TooLong}
+use Rattle.chain.specs.Lines.{fault_text}
+use Rattle.chain.specs.Reports.{report_on}
+
+pub too_long : (b : List ℕ) → nat_le (length b) most_bytes ≡ false → report_on b ≡ line_of (fault_text TooLong)
+too_long b e = rw e refl

@@ -1,6 +1,0 @@
-pub mod Faults
-pub mod Commands
-pub mod Lines
-pub mod Recordings
-pub mod Reports
-pub mod Laws

@@ -1,0 +1,77 @@
+-- What an accepted pattern and relabelling are: facts on the bytes of an input that has no fault before its recording.
+use Rattle.std.proofs.Common.{◌≡◌, ℕ, ◌+◌, ◌*◌, ◌<◌, ◌≤◌, true, List, length, take, drop, get_or, Some, None, Option, nat_le, nat_lt, refl, arith, length-take, length-drop}
+use Rattle.std.specs.Option.{option_map, option_or}
+use Rattle.std.proofs.lemmas.Bool.{and_parts, leb-true, ltb-true}
+use Rattle.measures.specs.Formats.{states_in, labels_in, start_in, table_in, relabelling_labels_in, padded, first_over, over_fault, table_fault, head_fault, pattern_fault, relabelling_head_fault, relabelling_fault}
+use Rattle.measures.specs.Refusals.{counted}
+use Rattle.measures.proofs.Reading.{below_bound}
+use Rattle.measures.proofs.Recognizing.{padded_complete}
+use Rattle.reports.specs.declared.faults.Fault.TheVariants.{Pattern, Relabelling}
+use Rattle.text.specs.Inputs.{most_bytes}
+use Rattle.reports.specs.Reports.{relabelling_at, front_fault}
+use Rattle.reports.proofs.Asked.{asked, both, mapped}
+
+-- Where no entry is told as too large, none was found.
+over_none : (from : ℕ) (o : Option ℕ) → over_fault from o ≡ None → o ≡ None
+over_none from None e = refl
+over_none from (Some i) e = absurd (cc)
+
+-- What is counted is from 1 to 64.
+counted_is : (n : ℕ) → counted n ≡ true → (0 < n) × (n ≤ 64)
+counted_is n e = let (p, q) = and_parts (nat_le 1 n) (nat_le n 64) e in let a = leb-true 1 n p in (omega arith, leb-true n 64 q)
+
+-- A table without a fault has all of its entries, each below the bound.
+pub table_sound : (b : List ℕ) (from count bound : ℕ) → table_fault b from count bound ≡ None
+    → (from + count ≤ length b) × ((k : ℕ) → k < count → get_or (take count (drop from b)) k 0 < bound)
+table_sound b from count bound e =
+    let (p, q) = asked (nat_le (from + count) (length b)) _ (over_fault from (first_over bound (take count (drop from b)))) e in
+    let fits = leb-true (from + count) (length b) p in
+    let all : length (take count (drop from b)) ≡ count = simp (length-take, length-drop) (omega arith) in
+    (fits, λ k l. below_bound bound (take count (drop from b)) (over_none from _ q) k (omega arith))
+
+module _ (b : List ℕ) (sound : front_fault b ≡ None) where
+  -- The input is not too long, and neither its pattern nor its relabelling has a fault.
+  pub front_parts : (nat_le (length b) most_bytes ≡ true) × (pattern_fault b ≡ None) × (relabelling_fault b (relabelling_at b) (labels_in b) ≡ None)
+  front_parts =
+      let (size, rest) = asked (nat_le (length b) most_bytes) _ (option_or (option_map Pattern (pattern_fault b)) (option_map Relabelling (relabelling_fault b (relabelling_at b) (labels_in b)))) sound in
+      let (p, q) = both _ _ rest in
+      (size, mapped _ _ p, mapped _ _ q)
+
+  -- The head and the table of the pattern have none, and the head and the table of the relabelling.
+  parts_sound : (head_fault b ≡ None) × (table_fault b 12 (states_in b * labels_in b) (states_in b) ≡ None) × (relabelling_head_fault b (relabelling_at b) ≡ None)
+  parts_sound =
+      let (size, p, q) = front_parts in
+      let (h, t) = both (head_fault b) _ p in
+      (h, t, (both (relabelling_head_fault b (relabelling_at b)) _ q).0)
+
+  -- There are 1 to 64 states and 1 to 64 labels, and the start is a state.
+  head_sound : (0 < states_in b) × (states_in b ≤ 64) × ((0 < labels_in b) × (labels_in b ≤ 64)) × (start_in b < states_in b)
+  head_sound =
+      let long = (asked _ _ _ parts_sound.0).1 in
+      let tag = (asked _ _ _ long).1 in
+      let states = asked (counted (states_in b)) _ _ tag in
+      let labels = asked (counted (labels_in b)) _ _ states.1 in
+      let start = asked (nat_lt (start_in b) (states_in b)) _ _ labels.1 in
+      let s = counted_is (states_in b) states.0 in
+      (s.0, s.1, counted_is (labels_in b) labels.0, ltb-true (start_in b) (states_in b) start.0)
+
+  -- There are 1 to 64 labels.
+  pub labels_counted : (0 < labels_in b) × (labels_in b ≤ 64)
+  labels_counted = head_sound.2
+
+  -- The start is a state.
+  pub start_below : start_in b < states_in b
+  start_below = head_sound.3
+
+  -- Each entry of the table is a state.
+  pub table_below : (k : ℕ) → k < states_in b * labels_in b → get_or (padded 4096 (table_in b)) k 0 < states_in b
+  table_below =
+      padded_complete 4096 (states_in b) (states_in b * labels_in b) (table_in b) (padded 4096 (table_in b)) refl
+      (table_sound b 12 (states_in b * labels_in b) (states_in b) parts_sound.1).1
+
+  -- The relabelling has 1 to 64 labels.
+  pub count_counted : (0 < relabelling_labels_in b (relabelling_at b)) × (relabelling_labels_in b (relabelling_at b) ≤ 64)
+  count_counted =
+      let tag = (asked _ _ _ parts_sound.2).1 in
+      let long = (asked _ _ _ tag).1 in
+      counted_is (relabelling_labels_in b (relabelling_at b)) (asked (counted (relabelling_labels_in b (relabelling_at b))) _ _ long).0

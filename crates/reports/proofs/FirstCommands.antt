@@ -1,0 +1,103 @@
+-- The first command of some bytes, and what it says of them.
+use Rattle.std.proofs.Common.{◌≡◌, ℕ, List, [], ◌∷◌, Ok, Err, Result, sym, refl, subst, inl, inr}
+use Rattle.std.proofs.lemmas.Bool.{cases_eq, ne_eqb}
+use Rattle.history.specs.Runs as rules
+use Rattle.measures.specs.declared.calls.Call as handing
+use Rattle.measures.specs.Calls.{handed}
+use Rattle.reports.specs.declared.commands.Command.{Command}
+use Rattle.reports.specs.declared.commands.Command.TheVariants.{Make, Call, End}
+use Rattle.reports.specs.declared.faults.Reason.{Reason}
+use Rattle.reports.specs.declared.faults.Reason.TheVariants.{NoByte, NoCommand, NoOperands}
+use Rattle.reports.specs.Commands.{first_command, calls_in}
+
+-- whether bytes can be no whole command for this reason
+abbrev pub OfForm : Reason → Type 0
+OfForm NoByte = Unit {0}
+OfForm NoCommand = Unit {0}
+OfForm NoOperands = Unit {0}
+OfForm other = ⊥
+
+-- What it says that this is the first command, and these the bytes after it, or that there is none for this reason: a call is the first of the
+-- calls, and has three bytes; else there are no calls. A making has three bytes too, whatever follows; and each reason is one of form.
+abbrev pub Begins : List ℕ → Result (Command × List ℕ) Reason → Type 0
+Begins bytes (Ok (Call c, rest)) = (b x : ℕ) × (bytes ≡ b ∷ (c.unit ∷ (x ∷ rest))) × (calls_in bytes ≡ handed c ∷ calls_in rest)
+Begins bytes (Ok (Make n k, rest)) =
+    (calls_in bytes ≡ []) × (b : ℕ) × (bytes ≡ b ∷ (n ∷ (k ∷ rest))) × ((zs : List ℕ) → first_command (b ∷ (n ∷ (k ∷ zs))) ≡ Ok (Make n k, zs))
+Begins bytes (Ok (End, rest)) = calls_in bytes ≡ []
+Begins bytes (Err reason) = (calls_in bytes ≡ []) × OfForm reason
+
+-- bytes that begin so with their first command
+abbrev Begun : List ℕ → Type 0
+Begun bytes = Begins bytes (first_command bytes)
+
+-- a making, and the three kinds of calls
+made : (rest : List ℕ) → Begun (0x10 ∷ rest)
+made [] = (refl, tt)
+made (n ∷ []) = (refl, tt)
+made (n ∷ (k ∷ rest)) = (refl, 0x10, refl, λ zs. refl)
+
+sent : (rest : List ℕ) → Begun (0x01 ∷ rest)
+sent [] = (refl, tt)
+sent (u ∷ []) = (refl, tt)
+sent (u ∷ (m ∷ rest)) = (0x01, m, refl, refl)
+
+received : (rest : List ℕ) → Begun (0x02 ∷ rest)
+received [] = (refl, tt)
+received (u ∷ []) = (refl, tt)
+received (u ∷ (m ∷ rest)) = (0x02, m, refl, refl)
+
+marked : (rest : List ℕ) → Begun (0x03 ∷ rest)
+marked [] = (refl, tt)
+marked (u ∷ []) = (refl, tt)
+marked (u ∷ (l ∷ rest)) = (0x03, l, refl, refl)
+
+-- the end
+ended : (rest : List ℕ) → Begun (0x00 ∷ rest)
+ended [] = refl
+ended (u ∷ []) = refl
+ended (u ∷ (x ∷ rest)) = refl
+
+-- any other byte
+module _ (b : ℕ) (no_make : b ≡ 0x10 → ⊥) (no_send : b ≡ 0x01 → ⊥) (no_receipt : b ≡ 0x02 → ⊥) (no_mark : b ≡ 0x03 → ⊥) (no_end : b ≡ 0x00 → ⊥) where
+  no_command : (rest : List ℕ) → first_command (b ∷ rest) ≡ Err NoCommand
+  no_command rest = rw (ne_eqb b 0x10 no_make, ne_eqb b 0x01 no_send, ne_eqb b 0x02 no_receipt, ne_eqb b 0x03 no_mark, ne_eqb b 0x00 no_end) refl
+
+  no_calls : (rest : List ℕ) → calls_in (b ∷ rest) ≡ []
+  no_calls [] = refl
+  no_calls (u ∷ []) = refl
+  no_calls (u ∷ (x ∷ rest)) = rw (ne_eqb b 0x01 no_send, ne_eqb b 0x02 no_receipt, ne_eqb b 0x03 no_mark) refl
+
+  unknown : (rest : List ℕ) → Begun (b ∷ rest)
+  unknown rest = subst (Begins (b ∷ rest)) (sym (no_command rest)) (no_calls rest, tt)
+
+by_byte : (b : ℕ) (rest : List ℕ) → Begun (b ∷ rest)
+by_byte b rest =
+    unless 0x10 (made rest) (λ no_make.
+    unless 0x01 (sent rest) (λ no_send.
+    unless 0x02 (received rest) (λ no_receipt.
+    unless 0x03 (marked rest) (λ no_mark.
+    unless 0x00 (ended rest) (λ no_end. unknown b no_make no_send no_receipt no_mark no_end rest)))))
+  where
+    unless : (v : ℕ) → Begun (v ∷ rest) → ((b ≡ v → ⊥) → Begun (b ∷ rest)) → Begun (b ∷ rest)
+    unless v here else_so = elim (cases_eq b v) [ inl e ↦ subst (λ (a : ℕ). Begun (a ∷ rest)) (sym e) here | inr other ↦ else_so other ]
+
+-- What the first command says of the bytes is so.
+pub begins : (bytes : List ℕ) (r : Result (Command × List ℕ) Reason) → first_command bytes ≡ r → Begins bytes r
+begins bytes r is = subst (Begins bytes) is (all bytes)
+  where
+    all : (bytes : List ℕ) → Begun bytes
+    all [] = (refl, tt)
+    all (b ∷ rest) = by_byte b rest
+
+-- Where some bytes begin with a call, their first command is one.
+pub begins_call : (bytes : List ℕ) (c : rules.Call) (cs : List rules.Call) → calls_in bytes ≡ c ∷ cs → (r : handing.Call) × (rest : List ℕ) × (first_command bytes ≡ Ok (Call r, rest))
+begins_call bytes c cs some = go (first_command bytes) refl
+  where
+    not_none : calls_in bytes ≡ [] → ⊥
+    not_none none = cc
+
+    go : (r : Result (Command × List ℕ) Reason) → first_command bytes ≡ r → (d : handing.Call) × (rest : List ℕ) × (first_command bytes ≡ Ok (Call d, rest))
+    go (Ok (Call d, rest)) is = (d, rest, is)
+    go (Ok (Make n k, rest)) is = absurd (not_none (begins bytes _ is).0)
+    go (Ok (End, rest)) is = absurd (not_none (begins bytes _ is))
+    go (Err reason) is = absurd (not_none (begins bytes _ is).0)

@@ -1,0 +1,58 @@
+-- What a board answers to a call, and the line that is told of it.
+use Rattle.std.proofs.Common.{◌≡◌, ℕ, Bool, Some, None, Ok, Err, Option, Result, sym, refl, ap, ◌∙◌, subst}
+use Rattle.history.specs.declared.refusals.Refusal.{Refusal}
+use Rattle.history.specs.Board.{Answer}
+use Rattle.causality.specs.Boards.{Memory}
+use Rattle.causality.specs.Calls.{clock_told}
+use Rattle.history.specs.Runs.{call}
+use Rattle.measures.specs.declared.boards.JudgedMark.{JudgedMark}
+use Rattle.measures.specs.declared.calls.Call as calls
+use Rattle.measures.specs.declared.calls.Event.{Event}
+use Rattle.measures.specs.Boards.{Obeys}
+use Rattle.measures.specs.Calls.{judged_told, event, handed}
+use Rattle.measures.specs.Measures.{Meaning}
+use Rattle.reports.specs.declared.faults.Reason.{Reason}
+use Rattle.reports.specs.declared.faults.Reason.TheVariants.{Refused}
+use Rattle.reports.specs.declared.lines.MarkLine.{MarkLine}
+use Rattle.reports.specs.Steps.{shown}
+
+-- a send or a receipt has no line
+abbrev pub clock_line : Result ℕ Refusal → Result (Option MarkLine) Reason
+clock_line (Ok own) = Ok None
+clock_line (Err e) = Err (Refused e)
+
+-- the line of a mark under a judge
+abbrev pub judged_line : ℕ → Result (JudgedMark ℕ) Refusal → Result (Option MarkLine) Reason
+judged_line u (Ok r) = Ok (Some (record { unit = u; clock = r.mark.clock; predecessors = r.mark.predecessors; states = r.mark.value; some = r.verdict.some; all = r.verdict.all }))
+judged_line u (Err e) = Err (Refused e)
+
+module _ (some all : ℕ → Bool) (u : ℕ) where
+  clock_shown : (r : Result ℕ Refusal) → clock_line r ≡ shown some all u (clock_told r)
+  clock_shown (Ok own) = refl
+  clock_shown (Err e) = refl
+
+  -- what a judge says of a mark is what its line tells
+  abbrev pub Said : Result (JudgedMark ℕ) Refusal → Type 0
+  Said (Ok r) = (r.verdict.some ≡ some r.mark.value) × (r.verdict.all ≡ all r.mark.value)
+  Said (Err e) = Unit {0}
+
+  judged_shown : (r : Result (JudgedMark ℕ) Refusal) → Said r → judged_line u r ≡ shown some all u (judged_told r)
+  judged_shown (Ok r) (s, a) =
+      ap (λ (x : Bool). Ok (Some (record { unit = u; clock = r.mark.clock; predecessors = r.mark.predecessors; states = r.mark.value; some = x; all = r.verdict.all }))) s
+      ∙ ap (λ (x : Bool). Ok (Some (record { unit = u; clock = r.mark.clock; predecessors = r.mark.predecessors; states = r.mark.value; some = some r.mark.value; all = x }))) a
+  judged_shown (Err e) s = refl
+
+-- a call was answered by the rules, and told so
+abbrev pub Handed : Meaning ℕ → ℕ → ℕ → (ℕ → Bool) → (ℕ → Bool) → Bool → Memory ℕ → Memory ℕ → calls.Call → Result (Option MarkLine) Reason → Type 0
+Handed m n k some all room old new c result = (x : Result (Answer ℕ) Refusal) × Obeys m n k (handed c) room old new x × (result ≡ shown some all c.unit x)
+
+module _ (m : Meaning ℕ) {n k : ℕ} (some all : ℕ → Bool) {room : Bool} {old new : Memory ℕ} (c : calls.Call) {e : Event} (is : c.event ≡ e) {result : Result (Option MarkLine) Reason} where
+  answered_so : (x : Result (Answer ℕ) Refusal) → Obeys m n k (call c.unit (event e)) room old new x → result ≡ shown some all c.unit x → Handed m n k some all room old new c result
+  answered_so x obeys said = (x, subst (λ (f : Event). Obeys m n k (call c.unit (event f)) room old new x) (sym is) obeys, said)
+
+  pub handed_clock : (r : Result ℕ Refusal) → Obeys m n k (call c.unit (event e)) room old new (clock_told r) → result ≡ clock_line r → Handed m n k some all room old new c result
+  handed_clock r obeys told = answered_so (clock_told r) obeys (told ∙ clock_shown some all c.unit r)
+
+  pub handed_mark : (r : Result (JudgedMark ℕ) Refusal) → Obeys m n k (call c.unit (event e)) room old new (judged_told r) → Said some all c.unit r → result ≡ judged_line c.unit r
+      → Handed m n k some all room old new c result
+  handed_mark r obeys says told = answered_so (judged_told r) obeys (told ∙ judged_shown some all c.unit r says)

@@ -1,0 +1,179 @@
+-- How many messages are left on their way where a recording ends well.
+use Rattle.std.proofs.Common.{◌≡◌, ◌↔◌, ℕ, zero, suc, ◌+◌, ◌*◌, ◌<◌, Bool, true, false, if◌then◌else◌, ◌==◌, List, [], ◌∷◌, length, drop, Some, Ok, Err, Result, sym, refl, ap, ◌∙◌, subst, inl, inr, ⊎_elim, arith}
+use Rattle.std.specs.List.{slice_get}
+use Rattle.std.proofs.lemmas.List.{drop-drop}
+use Rattle.std.proofs.Math.Path.{fun_ext}
+use Rattle.history.specs.declared.messages.Post.{Post}
+use Rattle.history.specs.declared.refusals.Refusal.{Refusal}
+use Rattle.history.specs.Counting.{Exactly, HowMany}
+use Rattle.history.specs.Events.{Event, Logs, send, at, Sent, Received}
+use Rattle.history.specs.Limits.{most_marks}
+use Rattle.history.specs.Messages.{travels, Stated}
+use Rattle.history.specs.Rows.{Payload}
+use Rattle.history.specs.Runs.{Size, Call, Possible, Continues, Run, silence, grown, by_unit, events_in}
+use Rattle.history.specs.Board.{State, Answer, new_state, new_history, next, outcome, outcomes_from, run, accepted, state_from}
+use Rattle.history.proofs.Accepting.{accepts_runs}
+use Rattle.history.proofs.Lists.{exactly_like}
+use Rattle.history.proofs.Posts.{travels_stated}
+use Rattle.causality.specs.Boards.{travelling}
+use Rattle.measures.specs.Measures.{Meaning}
+use Rattle.measures.specs.Worths.{carrying, sized}
+use Rattle.reports.specs.declared.commands.Command.{Command}
+use Rattle.reports.specs.declared.commands.Command.TheVariants as commands
+use Rattle.reports.specs.declared.faults.Reason.{Reason}
+use Rattle.reports.specs.declared.faults.RecordingFault.{RecordingFault}
+use Rattle.reports.specs.Commands.{first_command, calls_in}
+use Rattle.reports.specs.Recordings.{Told, closed, ending, before_refusal, told_on, told}
+use Rattle.reports.specs.Reports.{recording_at, judge_in, some_in, all_in, told_in}
+use Rattle.reports.specs.Laws.{AfterCalls}
+use Rattle.reports.proofs.FirstCommands.{begins}
+use Rattle.reports.proofs.Reading.{reads, reads_ok, last_run, told_cases}
+
+module _ (posts : ℕ → Post) where
+  -- a message below k that is on its way
+  abbrev OnWay : ℕ → ℕ → Type 0
+  OnWay k p = (p < k) × (travels (posts p) ≡ true)
+
+  -- one number more
+  one_more : (k n : ℕ) (l : List ℕ) → Exactly (OnWay k) l → length l ≡ n → (b : Bool) → travels (posts k) ≡ b → HowMany (OnWay (suc k)) (n + (if b then 1 else 0))
+  one_more k n l x e true t = (
+    k ∷ l,
+    record {
+      sound = λ a m. ⊎_elim (λ h. grind arith) (λ h. (let s = x.sound a h in grind arith)) m;
+      complete = λ a h. grind (arith, x.complete a);
+      once = (λ m. (let s = x.sound k m in omega arith), x.once);
+    },
+    omega arith,
+  )
+  one_more k n l x e false t = (
+    l,
+    record { sound = λ a m. (let s = x.sound a m in grind arith); complete = λ a h. grind (arith, x.complete a); once = x.once },
+    omega arith,
+  )
+
+  -- So many messages below k are on their way as are counted.
+  way_counted : (k : ℕ) → HowMany (OnWay k) (travelling posts k)
+  way_counted zero = ([], record { sound = λ a m. absurd m; complete = λ a h. absurd (omega arith); once = tt }, refl)
+  way_counted (suc k) = let (l, x, e) = way_counted k in one_more k (travelling posts k) l x e (travels (posts k)) refl
+
+-- In a run only messages of the board are sent.
+sent_below : (z : Size) (logs : Logs) (cs : List Call) → Continues z logs cs → (u i p : ℕ) → at (by_unit cs) u i ≡ Some (send p) → p < z.messages
+sent_below z logs [] r u i p e = cc
+sent_below z logs (c ∷ cs) r u i p e = go (u == c.unit) i e (λ j. sent_below z (grown logs c.unit c.act) cs r.1 u j p)
+  where
+    first : c.act ≡ send p → p < z.messages
+    first e = (subst (λ (x : Event). Possible z logs c.unit x) e r.0).1
+
+    go : (b : Bool) (i : ℕ) → slice_get (if b then c.act ∷ by_unit cs u else by_unit cs u) i ≡ Some (send p)
+        → ((j : ℕ) → at (by_unit cs) u j ≡ Some (send p) → p < z.messages) → p < z.messages
+    go true zero e rest = first cc
+    go true (suc i) e rest = rest i e
+    go false i e rest = rest i e
+
+module _ {V : Type 0} (M : Payload V) (z : Size) where
+  -- After calls that are all accepted, so many messages are sent and not received as are counted on their way.
+  run_counted : (cs : List Call) → accepted M z cs ≡ cs → HowMany (λ p. Sent (at (by_unit cs)) p × (Received (at (by_unit cs)) p → ⊥)) (travelling (run M z cs).state.posts z.messages)
+  run_counted cs whole =
+      let (l, x, e) = way_counted (run M z cs).state.posts z.messages in
+      (l, exactly_like (λ p h. (stated p).0 h.1) (λ p h. (below p h.0, (stated p).1 h)) l x, e)
+    where
+      logs : (run M z cs).log ≡ by_unit cs
+      logs = fun_ext (λ u. (accepts_runs M z cs).logged u ∙ ap (λ (ds : List Call). by_unit ds u) whole)
+
+      stated : (p : ℕ) → (travels ((run M z cs).state.posts p) ≡ true) ↔ (Sent (at (by_unit cs)) p × (Received (at (by_unit cs)) p → ⊥))
+      stated p = travels_stated (at (by_unit cs)) p _ (subst (λ (log : Logs). Stated (at log) p ((run M z cs).state.posts p)) logs ((accepts_runs M z cs).posts_stated p))
+
+      below : (p : ℕ) → Sent (at (by_unit cs)) p → p < z.messages
+      below p (u, i, e) = sent_below z silence cs (subst (λ (ds : List Call). Run z ds) whole (accepts_runs M z cs).accepted_run) u i p e
+
+  -- Calls after which a recording ends well are read whole, and it ends as what closes it.
+  ending_ok : (cs : List Call) (s : State V) (place left : ℕ) (closing : Result ℕ RecordingFault) → ending place (outcomes_from M z s cs) closing ≡ Ok left
+      → (closing ≡ Ok left) × (reads M z s cs ≡ cs)
+  ending_ok [] s place left closing e = (e, refl)
+  ending_ok (c ∷ cs) s place left closing e = one (outcome M z s c) (outcomes_from M z (next M z s c) cs) (ending_ok cs (next M z s c) (place + 3) left closing) e
+    where
+      one : (r : Result (Answer V) Refusal) (xs : List (Result (Answer V) Refusal))
+          → (ending (place + 3) xs closing ≡ Ok left → (closing ≡ Ok left) × (before_refusal cs xs ≡ cs)) → ending place (r ∷ xs) closing ≡ Ok left
+          → (closing ≡ Ok left) × (before_refusal (c ∷ cs) (r ∷ xs) ≡ c ∷ cs)
+      one (Ok a) xs ih e = let (p, q) = ih e in (p, ap (λ (l : List Call). c ∷ l) q)
+      one (Err x) xs ih e = cc
+
+-- What closes a recording well leaves what is left.
+closed_ok : (left place : ℕ) (r : Result (Command × List ℕ) Reason) (x : ℕ) → closed left place r ≡ Ok x → left ≡ x
+closed_ok left place (Err reason) x e = cc
+closed_ok left place (Ok (commands.End, [])) x e = cc
+closed_ok left place (Ok (commands.End, y ∷ rest)) x e = cc
+closed_ok left place (Ok (commands.Make n k, rest)) x e = cc
+closed_ok left place (Ok (commands.Call c, rest)) x e = cc
+
+-- And it is an end, with nothing after it.
+closed_end : (left place : ℕ) (r : Result (Command × List ℕ) Reason) (x : ℕ) → closed left place r ≡ Ok x → r ≡ Ok (commands.End, [])
+closed_end left place (Err reason) x e = cc
+closed_end left place (Ok (commands.End, [])) x e = refl
+closed_end left place (Ok (commands.End, y ∷ rest)) x e = cc
+closed_end left place (Ok (commands.Make n k, rest)) x e = cc
+closed_end left place (Ok (commands.Call c, rest)) x e = cc
+
+module _ (m : Meaning ℕ) (some all : ℕ → Bool) where
+  -- Where a recording on a board ends well, it leaves the messages on their way after the calls read.
+  left_on : (n k place : ℕ) (bytes : List ℕ) (x : ℕ) → (told_on m some all n k (new_state (carrying m n)) place bytes).end ≡ Ok x
+      → x ≡ travelling (run (carrying m n) (sized m n k most_marks) (told_on m some all n k (new_state (carrying m n)) place bytes).calls).state.posts k
+  left_on n k place bytes x e =
+      let M = carrying m n in
+      let z = sized m n k most_marks in
+      let cs = calls_in bytes in
+      let after = first_command (drop (3 * length cs) bytes) in
+      let (p, q) = ending_ok M z cs (new_state M) place x (closed (travelling (state_from M z (new_state M) cs).posts k) (place + 3 * length cs) after) e in
+      sym (closed_ok _ _ _ x p)
+      ∙ ap (λ (s : State ℕ). travelling s.posts k) (last_run M z cs)
+      ∙ ap (λ (l : List Call). travelling (run M z l).state.posts k) (sym q)
+
+  -- Where any recording ends well, all of its calls are read.
+  told_whole : (place : ℕ) (bytes : List ℕ) (left : ℕ) → (told m some all place bytes).end ≡ Ok left → (told m some all place bytes).calls ≡ calls_in (drop 3 bytes)
+  told_whole place bytes = elim (told_cases m some all place bytes) [
+    | inl (reason, e) ↦ subst Whole (sym e) (λ left p. cc)
+    | inr (n, k, rest, c, r, e) ↦ subst Whole (sym e) (λ left p.
+        let (none, x, same, whatever) = begins bytes _ c in
+        (ending_ok (carrying m n) (sized m n k most_marks) (calls_in rest) (new_state (carrying m n)) (place + 3) left _ p).1 ∙ ap (λ (ys : List ℕ). calls_in (drop 3 ys)) (sym same))
+  ]
+    where
+      Whole : Told → Type 0
+      Whole t = (left : ℕ) → t.end ≡ Ok left → t.calls ≡ calls_in (drop 3 bytes)
+
+  -- the messages that were sent and not received are counted, if a recording ends well
+  abbrev Leaves : Told → Type 0
+  Leaves t = (left : ℕ) → t.end ≡ Ok left → HowMany (λ p. Sent (events_in t.calls) p × (Received (events_in t.calls) p → ⊥)) left
+
+  -- Where any recording ends well, the messages that were sent and not received are counted.
+  told_leaves : (place : ℕ) (bytes : List ℕ) → Leaves (told m some all place bytes)
+  told_leaves place bytes = elim (told_cases m some all place bytes) [
+    | inl (reason, e) ↦ subst Leaves (sym e) (λ left p. cc)
+    | inr (n, k, rest, c, r, e) ↦ subst Leaves (sym e) (λ left p. subst (HowMany _) (sym (left_on n k (place + 3) rest left p))
+        (run_counted (carrying m n) (sized m n k most_marks) _ (reads_ok (carrying m n) (sized m n k most_marks) (new_history (carrying m n)) (calls_in rest))))
+  ]
+
+-- Where a recording ends well, the messages that were sent and not received are counted.
+pub left_counted : (b : List ℕ) (left : ℕ) → (told_in b).end ≡ Ok left
+    → HowMany (λ p. Sent (events_in (told_in b).calls) p × (Received (events_in (told_in b).calls) p → ⊥)) left
+left_counted b = told_leaves (judge_in b) (some_in b) (all_in b) (recording_at b) (drop (recording_at b) b)
+
+-- Where a recording ends well, all calls after its making are read.
+pub all_read : (b : List ℕ) (left : ℕ) → (told_in b).end ≡ Ok left → (told_in b).calls ≡ calls_in (drop 3 (drop (recording_at b) b))
+all_read b = told_whole (judge_in b) (some_in b) (all_in b) (recording_at b) (drop (recording_at b) b)
+
+-- And after them stands an end, and nothing more.
+pub ended : (b : List ℕ) (left : ℕ) → (told_in b).end ≡ Ok left → (p : ℕ) × AfterCalls b p × (first_command (drop p b) ≡ Ok (commands.End, []))
+ended b left ends = elim (told_cases (judge_in b) (some_in b) (all_in b) (recording_at b) (drop (recording_at b) b)) [
+  | inl (reason, t) ↦ let end = ap (λ (t : Told). t.end) t in absurd (cc)
+  | inr (n, k, rest, first, made, t) ↦
+      let (none, x, same, whatever) = begins (drop (recording_at b) b) _ first in
+      let cs = calls_in rest in
+      let (p, q) = ending_ok (carrying (judge_in b) n) (sized (judge_in b) n k most_marks) cs (new_state (carrying (judge_in b) n)) (recording_at b + 3) left _ (sym (ap (λ (t : Told). t.end) t) ∙ ends) in
+      let there : drop (recording_at b + 3 + 3 * length cs) b ≡ drop (3 * length cs) rest =
+      sym (ap (drop (3 * length cs)) (sym (ap (drop 3) same)) ∙ drop-drop (3 * length cs) 3 (drop (recording_at b) b) ∙ drop-drop (3 + 3 * length cs) (recording_at b) b
+      ∙ ap (λ (j : ℕ). drop j b) (omega arith)) in (
+        recording_at b + 3 + 3 * length cs,
+        (n, k, rest, first, made, ap (λ (l : List Call). recording_at b + 3 + 3 * length l) (sym (ap (λ (t : Told). t.calls) t ∙ q))),
+        ap first_command there ∙ closed_end _ _ _ left p,
+      )
+]

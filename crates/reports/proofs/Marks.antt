@@ -1,0 +1,67 @@
+-- What the mark at the end of a list of accepted calls was told, and its line.
+use Rattle.std.proofs.Common.{◌≡◌, ℕ, Bool, List, [], ◌∷◌, ◌++◌, length, Some, None, refl, sym, ap, ◌∙◌, if◌then◌else◌, ◌==◌, true, false}
+use Rattle.std.specs.List.{slice_get}
+use Rattle.std.proofs.Math.Path.{fun_ext}
+use Rattle.std.proofs.lemmas.Bool.{eq-eqb}
+use Rattle.std.proofs.lemmas.Option.{same_Some}
+use Rattle.history.specs.Events.{Events, Event, Logs, at, mark}
+use Rattle.history.specs.Rows.{Payload}
+use Rattle.history.specs.Runs.{Size, Call, by_unit, grown, call, events_in}
+use Rattle.history.specs.Board.{History, Reply, new_history, acted, answer_to, reply, refusal, run}
+use Rattle.history.specs.Laws.{happened}
+use Rattle.history.proofs.Accepting.{accepts_runs}
+use Rattle.history.proofs.Logs.{grown_here}
+use Rattle.history.proofs.Runs.{after_taken, run_push}
+use Rattle.history.proofs.Told.{said_run}
+use Rattle.reports.proofs.Reading.{AllTaken, taken_accepted}
+use Rattle.reports.proofs.Taking.{taken_both}
+
+-- After the elements of a list stands the next.
+pub seam : {A : Type 0} (xs : List A) (y : A) (ys : List A) → slice_get (xs ++ y ∷ ys) (length xs) ≡ Some y
+seam [] y ys = refl
+seam (x ∷ xs) y ys = seam xs y ys
+
+-- One call more of its unit.
+by_unit_push : (cs : List Call) (u : ℕ) (e : Event) → by_unit (cs ++ call u e ∷ []) u ≡ by_unit cs u ++ e ∷ []
+by_unit_push [] u e = ap (λ (t : Bool). if t then e ∷ [] else []) (eq-eqb u u refl)
+by_unit_push (c ∷ cs) u e = pushed (u == c.unit) _ (by_unit cs u) (by_unit_push cs u e)
+  where
+    pushed : (t : Bool) (xs ys : List Event) → xs ≡ ys ++ e ∷ [] → (if t then c.act ∷ xs else xs) ≡ (if t then c.act ∷ ys else ys) ++ e ∷ []
+    pushed true xs ys p = ap (λ (es : List Event). c.act ∷ es) p
+    pushed false xs ys p = p
+
+-- some calls, and then a mark of unit u
+abbrev pub with_mark : List Call → ℕ → ℕ → List Call
+with_mark before u l = before ++ call u (mark l) ∷ []
+
+module _ {V : Type 0} (M : Payload V) (z : Size) where
+  -- The log of accepted calls is these calls unit by unit.
+  pub log_is : (cs : List Call) → AllTaken M z (new_history M) cs → (run M z cs).log ≡ by_unit cs
+  log_is cs t = fun_ext (λ u. (accepts_runs M z cs).logged u ∙ ap (λ (l : List Call). by_unit l u) (taken_accepted M z (new_history M) cs t))
+
+  module _ (before : List Call) (u l : ℕ) (t : AllTaken M z (new_history M) before) (ok : refusal M z (run M z before).state u (mark l) ≡ None) where
+    -- All of the calls are accepted.
+    all_taken : AllTaken M z (new_history M) (with_mark before u l)
+    all_taken = taken_both M z (new_history M) before (call u (mark l) ∷ []) t (ok, tt)
+
+    -- The events of the run are those of the calls, and the mark stands there.
+    pub events_are : happened M z (with_mark before u l) ≡ events_in (with_mark before u l)
+    events_are = ap at (log_is (with_mark before u l) all_taken)
+
+    pub mark_there : happened M z (with_mark before u l) u (length (by_unit before u)) ≡ Some (mark l)
+    mark_there = ap (λ (ev : Events). ev u (length (by_unit before u))) events_are ∙ ap (λ (es : List Event). slice_get es (length (by_unit before u))) (by_unit_push before u (mark l)) ∙ seam (by_unit before u) (mark l) []
+
+    -- What the mark was told is the answer to it.
+    pub answer_is : (r : Reply V) → at (run M z (with_mark before u l)).told u (length (by_unit before u)) ≡ Some r
+        → r.answer ≡ answer_to M z u (mark l) ((run M z before).state.rows u) ((acted M z (run M z before).state u (mark l)).rows u)
+    answer_is r e =
+        let h = run M z before in
+        let x = reply M z u (mark l) (h.state.rows u) ((acted M z h.state u (mark l)).rows u) in
+        let next = run_push M z before (call u (mark l)) ∙ after_taken M z h (call u (mark l)) ok in
+        let last = (said_run M z before).as_long u ∙ ap (λ (logs : Logs). length (logs u)) (log_is before t) in
+        ap (λ (y : Reply V). y.answer)
+        (same_Some _ _
+        (sym e
+        ∙ ap (λ (g : History V). at g.told u (length (by_unit before u))) next
+        ∙ ap (λ (i : ℕ). at (grown h.told u x) u i) (sym last)
+        ∙ grown_here h.told u x))

@@ -1,0 +1,69 @@
+-- Pieces of text that are put in place.
+use Rattle.std.proofs.Common.{◌≡◌, ℕ, zero, suc, ◌+◌, ◌*◌, ◌/◌, ◌%◌, ◌^◌, ◌<◌, ◌≤◌, Bool, true, ◌==◌, ◌&&◌, List, ◌++◌, length, take, drop, decimal, slice_index, refl, sym, ap, ◌∙◌, arith, inl, inr, eqb-true, append_assoc, length-append}
+use Rattle.std.proofs.Math.Seq.{take-add, take-append_seam}
+use Rattle.std.proofs.lemmas.Bool.{and_parts, cases_lt}
+use Rattle.std.proofs.lemmas.List.{take-take}
+use Rattle.std.proofs.lemmas.Fmt.{decimal_digit, decimal_step}
+use Rattle.reports.specs.declared.buffers.TheConstants.{DECIMAL_PAIRS}
+use Rattle.reports.specs.Pages.{two}
+
+-- A piece that is written from its end stands after the text before it.
+pub put_from_end : (old new piece rest : List ℕ) (at : ℕ) → take at new ≡ take at old → drop at new ≡ piece ++ rest → take (at + length piece) new ≡ take at old ++ piece
+put_from_end old new piece rest at before written =
+    take-add at (length piece) new
+    ∙ ap (λ (t : List ℕ). t ++ take (length piece) (drop at new)) before
+    ∙ ap (λ (t : List ℕ). take at old ++ take (length piece) t) written
+    ∙ ap (λ (t : List ℕ). take at old ++ t) (take-append_seam piece rest)
+
+-- Texts that are the same so far were the same before.
+pub take_shorter : (xs ys : List ℕ) (m n : ℕ) → m ≤ n → take n xs ≡ take n ys → take m xs ≡ take m ys
+take_shorter xs ys m n h e = sym (take-take m n xs h) ∙ ap (λ (t : List ℕ). take m t) e ∙ take-take m n ys h
+
+-- whether the table has the decimal digits of each number below n
+abbrev same_below : ℕ → Bool
+same_below zero = true
+same_below (suc n) = slice_index DECIMAL_PAIRS (n * 2) == 48 + n / 10 && (slice_index DECIMAL_PAIRS (n * 2 + 1) == 48 + n % 10 && same_below n)
+
+same_at : (n b : ℕ) → same_below n ≡ true → b < n → (slice_index DECIMAL_PAIRS (b * 2) ≡ 48 + b / 10) × (slice_index DECIMAL_PAIRS (b * 2 + 1) ≡ 48 + b % 10)
+same_at zero b same h = absurd (omega arith)
+same_at (suc n) b same h =
+    let first = and_parts (slice_index DECIMAL_PAIRS (n * 2) == 48 + n / 10) (slice_index DECIMAL_PAIRS (n * 2 + 1) == 48 + n % 10 && same_below n) same in
+    let second = and_parts (slice_index DECIMAL_PAIRS (n * 2 + 1) == 48 + n % 10) (same_below n) first.1 in
+    elim (cases_lt b n) [
+      | inl below ↦ same_at n b second.1 below
+      | inr top ↦
+          let e : b ≡ n = omega arith in
+          rw e (eqb-true _ _ first.0, eqb-true _ _ second.0)
+    ]
+
+-- The table has the two digits of each number below 100.
+pub DECIMAL_PAIRS_at : (b : ℕ) → b < 100 → (slice_index DECIMAL_PAIRS (b * 2) ≡ 48 + b / 10) × (slice_index DECIMAL_PAIRS (b * 2 + 1) ≡ 48 + b % 10)
+DECIMAL_PAIRS_at b h = same_at 100 b refl h
+
+-- A number from 10 to 99 has two digits.
+pub decimal_two : (n : ℕ) → 10 ≤ n → n < 100 → decimal n ≡ two n
+decimal_two n low high = rw (decimal_step n low (omega arith), decimal_digit (n / 10) (omega arith)) refl
+
+-- A number from 100 on ends with two digits.
+pub decimal_pair : (n : ℕ) → 100 ≤ n → n < 2 ^ 64 → decimal n ≡ decimal (n / 100) ++ two (n % 100)
+decimal_pair n low high =
+    let a : n / 10 / 10 ≡ n / 100 = omega arith in
+    let b : n / 10 % 10 ≡ n % 100 / 10 = omega arith in
+    let c : n % 10 ≡ n % 100 % 10 = omega arith in
+    rw (decimal_step n (omega arith) high, decimal_step (n / 10) (omega arith) (omega arith), append_assoc, a, b, ← c) refl
+
+pub length_pair : (n : ℕ) → 100 ≤ n → n < 2 ^ 64 → length (decimal n) ≡ length (decimal (n / 100)) + 2
+length_pair n low high = ap length (decimal_pair n low high) ∙ length-append (decimal (n / 100)) _
+
+-- A number from 10,000 on ends with four.
+pub decimal_four : (n : ℕ) → 10000 ≤ n → n < 2 ^ 64 → decimal n ≡ decimal (n / 10000) ++ two (n % 10000 / 100) ++ two (n % 10000 % 100)
+decimal_four n low high =
+    let a : n / 100 / 100 ≡ n / 10000 = omega arith in
+    let b : n / 100 % 100 ≡ n % 10000 / 100 = omega arith in
+    let c : n % 10000 % 100 ≡ n % 100 = omega arith in
+    rw (decimal_pair n (omega arith) high, decimal_pair (n / 100) (omega arith) (omega arith), a, b, c) refl
+
+pub length_four : (n : ℕ) → 10000 ≤ n → n < 2 ^ 64 → length (decimal n) ≡ length (decimal (n / 10000)) + 4
+length_four n low high =
+    let a : n / 100 / 100 ≡ n / 10000 = omega arith in
+    omega (arith, length_pair n (omega arith) high, length_pair (n / 100) (omega arith) (omega arith), ap (λ (k : ℕ). length (decimal k)) a)

@@ -1,0 +1,120 @@
+-- A call that a board refuses where a recording breaks off is none that could come next.
+use Rattle.std.proofs.Common.{◌≡◌, ℕ, ◌+◌, ◌*◌, List, [], ◌∷◌, ◌++◌, length, drop, Some, None, Ok, Err, Result, refl, sym, ap, ◌∙◌, subst, inl, inr, arith}
+use Rattle.std.proofs.lemmas.List.{drop-drop}
+use Rattle.std.proofs.lemmas.Option.{none-some}
+use Rattle.history.specs.declared.refusals.Refusal.{Refusal}
+use Rattle.history.specs.Events.{Logs}
+use Rattle.history.specs.Rows.{Payload}
+use Rattle.history.specs.Runs.{Size, Call, Possible, by_unit}
+use Rattle.history.specs.Board.{History, new_history, new_state, outcomes_from, refusal, run_from, run, state_from}
+use Rattle.history.proofs.Accepting.{accepts_runs}
+use Rattle.history.proofs.Runs.{by_calls, taken}
+use Rattle.history.specs.Limits.{most_marks}
+use Rattle.causality.specs.Boards.{travelling}
+use Rattle.measures.specs.Worths.{carrying, sized}
+use Rattle.reports.specs.declared.commands.Command.{Command}
+use Rattle.reports.specs.declared.commands.Command.TheVariants as commands
+use Rattle.reports.specs.declared.faults.Reason.{Reason}
+use Rattle.reports.specs.declared.faults.Reason.TheVariants.{NoBoard, SecondBoard, BytesAfterEnd, Refused}
+use Rattle.reports.specs.declared.faults.RecordingFault.{RecordingFault}
+use Rattle.reports.specs.Commands.{first_command, calls_in}
+use Rattle.reports.specs.Faults.{broken}
+use Rattle.reports.specs.Recordings.{Told, closed, ending, told_from, told_nothing, told_on}
+use Rattle.reports.specs.Reports.{judge_in, some_in, all_in, recording_at, told_in}
+use Rattle.reports.proofs.Calls.{calls_after}
+use Rattle.reports.proofs.Cuts.{same_break}
+use Rattle.reports.proofs.FirstCommands.{begins, begins_call}
+use Rattle.reports.proofs.Marks.{log_is}
+use Rattle.reports.proofs.Reading.{reads, reads_taken, told_cases}
+
+-- Bytes that close a recording refuse nothing.
+closed_refuses : (left place : ℕ) (r : Result (Command × List ℕ) Reason) (e : Refusal) (p : ℕ) → (r ≡ Err (Refused e) → ⊥) → closed left place r ≡ Err (broken (Refused e) p) → ⊥
+closed_refuses left place (Err reason) e p none h = none (ap (λ (x : Reason). Err x) (same_break reason place (broken (Refused e) p) h).0)
+closed_refuses left place (Ok (commands.End, [])) e p none h = cc
+closed_refuses left place (Ok (commands.End, x ∷ rest)) e p none h = let s = (same_break BytesAfterEnd (place + 1) (broken (Refused e) p) h).0 in cc
+closed_refuses left place (Ok (commands.Make n k, rest)) e p none h = let s = (same_break SecondBoard place (broken (Refused e) p) h).0 in cc
+closed_refuses left place (Ok (commands.Call c, rest)) e p none h = let s = (same_break SecondBoard place (broken (Refused e) p) h).0 in cc
+
+module _ (M : Payload ℕ) (z : Size) where
+  -- where the answers break a recording off with a refusal, the call there, next after those before it, is refused so
+  abbrev RefusedAt : History ℕ → List Call → Type 0
+  RefusedAt h cs =
+      (pl : ℕ) (closing : Result ℕ RecordingFault) (e : Refusal) (place : ℕ) → (closing ≡ Err (broken (Refused e) place) → ⊥)
+      → ending pl (outcomes_from M z h.state cs) closing ≡ Err (broken (Refused e) place)
+      → (c : Call) × (after : List Call) × (cs ≡ reads M z h.state cs ++ c ∷ after) × (place ≡ pl + 3 * length (reads M z h.state cs))
+      × (refusal M z (run_from M z h (reads M z h.state cs)).state c.unit c.act ≡ Some e)
+
+  -- Where answers break a recording off, they do so.
+  refused_at : (h : History ℕ) (cs : List Call) → RefusedAt h cs
+  refused_at = by_calls M z RefusedAt (λ h pl closing e place no is. absurd (no is)) took turned
+    where
+      took : (h : History ℕ) (c : Call) (cs : List Call) → refusal M z h.state c.unit c.act ≡ None → RefusedAt (taken M z h c) cs → RefusedAt h (c ∷ cs)
+      took h c cs e ih = rw (e, e) (λ pl closing x place no is.
+          let (d, after, p, q, r) = ih (pl + 3) closing x place no is in
+          (d, after, ap (λ (l : List Call). c ∷ l) p, omega arith, r))
+
+      turned : (h : History ℕ) (c : Call) (cs : List Call) (x : Refusal) → refusal M z h.state c.unit c.act ≡ Some x → RefusedAt h cs → RefusedAt h (c ∷ cs)
+      turned h c cs x e same = rw e (λ pl closing y place no is.
+          let (p, q) = same_break (Refused x) pl (broken (Refused y) place) is in
+          (c, cs, refl, omega arith, e ∙ (cc)))
+
+module _ (M : Payload ℕ) (z : Size) (bytes : List ℕ) where
+  -- the calls that were read
+  abbrev seen : List Call
+  seen = reads M z (new_state M) (calls_in bytes)
+
+  -- A call that is refused after them is none that could come next.
+  refused_impossible : (c : Call) (e : Refusal) → refusal M z (run M z seen).state c.unit c.act ≡ Some e → Possible z (by_unit seen) c.unit c.act → ⊥
+  refused_impossible c e r p =
+      let ok = ((accepts_runs M z seen).next_call c.unit c.act).1 (subst (λ (logs : Logs). Possible z logs c.unit c.act) (sym (log_is M z seen (reads_taken M z (new_history M) (calls_in bytes)))) p) in
+      none-some e (sym ok ∙ r)
+
+  -- So it is of the call at the place where the answers break a recording off.
+  broken_impossible : (place : ℕ) (closing : Result ℕ RecordingFault) (e : Refusal) (at : ℕ) → (closing ≡ Err (broken (Refused e) at) → ⊥)
+      → ending place (outcomes_from M z (new_state M) (calls_in bytes)) closing ≡ Err (broken (Refused e) at)
+      → (c : Call) (cs : List Call) → ((i : ℕ) → at ≡ place + i → calls_in (drop i bytes) ≡ c ∷ cs) → Possible z (by_unit seen) c.unit c.act → ⊥
+  broken_impossible place closing e at other is c cs h p =
+      let (d, after, q, there, r) = refused_at M z (new_history M) (calls_in bytes) place closing e at other is in
+      let same : d ≡ c = let x = calls_after bytes seen (d ∷ after) q in let y = h (3 * length seen) there in cc in
+      refused_impossible c e (subst (λ (a : Call). refusal M z (run M z seen).state a.unit a.act ≡ Some e) same r) p
+
+module _ (b : List ℕ) where
+  abbrev bytes : List ℕ
+  bytes = drop (recording_at b) b
+
+  -- where it breaks off with a refusal, the call there is none that could come next
+  abbrev RefusedIn : Told → Type 0
+  RefusedIn t =
+      (e : Refusal) (place : ℕ) → t.end ≡ Err (broken (Refused e) place) → (c : Call) (cs : List Call) → calls_in (drop place b) ≡ c ∷ cs
+      → Possible (sized (judge_in b) t.units t.messages most_marks) (by_unit t.calls) c.unit c.act → ⊥
+
+  -- So it is where nothing is told, since no call comes first.
+  on_nothing : (reason : Reason) → told_in b ≡ told_nothing (judge_in b) (some_in b) (all_in b) reason (recording_at b) → RefusedIn (told_nothing (judge_in b) (some_in b) (all_in b) reason (recording_at b))
+  on_nothing reason t e place is c cs h p =
+      let (r, at) = same_break reason (recording_at b) (broken (Refused e) place) is in
+      let (x, rest, f) = begins_call bytes c cs (ap (λ (i : ℕ). calls_in (drop i b)) at ∙ h) in
+      let s = ap (told_from (judge_in b) (some_in b) (all_in b) (recording_at b)) f in
+      let same = (same_break NoBoard (recording_at b) (broken reason (recording_at b)) (sym (ap (λ (y : Told). y.end) s) ∙ ap (λ (y : Told). y.end) t)).0 in
+      cc
+
+  -- And so it is on a board.
+  on_board : (n k : ℕ) (rest : List ℕ) → rest ≡ drop 3 bytes → RefusedIn (told_on (judge_in b) (some_in b) (all_in b) n k (new_state (carrying (judge_in b) n)) (recording_at b + 3) rest)
+  on_board n k rest three e place is c cs h p =
+      let M = carrying (judge_in b) n in
+      let z = sized (judge_in b) n k most_marks in
+      let all = calls_in rest in
+      let tail = drop (3 * length all) rest in
+      let left = travelling (state_from M z (new_state M) all).posts k in
+      let end = recording_at b + 3 + 3 * length all in
+      broken_impossible M z rest (recording_at b + 3) (closed left end (first_command tail)) e place (closed_refuses left end (first_command tail) e place (λ h. (begins tail (Err (Refused e)) h).1)) is c cs
+      (λ i at. ap calls_in (there i at) ∙ h) p
+    where
+      there : (i : ℕ) → place ≡ recording_at b + 3 + i → drop i rest ≡ drop place b
+      there i at = ap (drop i) three ∙ drop-drop i 3 bytes ∙ drop-drop (3 + i) (recording_at b) b ∙ ap (λ (j : ℕ). drop j b) (omega arith)
+
+  -- A call that is refused, where a recording breaks off, is none that could come next.
+  pub refused : RefusedIn (told_in b)
+  refused = elim (told_cases (judge_in b) (some_in b) (all_in b) (recording_at b) bytes) [
+    | inl (reason, t) ↦ subst RefusedIn (sym t) (on_nothing reason t)
+    | inr (n, k, rest, f, _, t) ↦ subst RefusedIn (sym t) (on_board n k rest (let (none, x, same, whatever) = begins bytes _ f in sym (ap (drop 3) same)))
+  ]

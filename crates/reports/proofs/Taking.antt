@@ -1,0 +1,59 @@
+-- Lists of calls that are all accepted: their parts, and the lines of their marks.
+use Rattle.std.proofs.Common.{◌≡◌, ℕ, ◌+◌, Bool, List, [], ◌∷◌, ◌++◌, length, Some, None, Option, refl, sym, ap, ap₂, ◌∙◌, append_assoc, length-append}
+use Rattle.history.specs.declared.refusals.Refusal.{Refusal}
+use Rattle.history.specs.Events.{Event, send, receive, mark}
+use Rattle.history.specs.Marks.{tick}
+use Rattle.history.specs.Rows.{Payload, Cell}
+use Rattle.history.specs.Runs.{Size, Call}
+use Rattle.history.specs.Board.{History, acted, answer_to, answered, next, refusal, outcomes_from, after, run_from}
+use Rattle.measures.specs.Measures.{Meaning}
+use Rattle.reports.specs.declared.lines.MarkLine.{MarkLine}
+use Rattle.reports.specs.Laws.{marks_among}
+use Rattle.reports.specs.Recordings.{line, lines}
+use Rattle.reports.proofs.Reading.{AllTaken}
+
+module _ {V : Type 0} (M : Payload V) (z : Size) where
+  -- All of two lists are accepted, one after the other, exactly when those of the first are, and then those of the second.
+  pub taken_parts : (h : History V) (cs ds : List Call) → AllTaken M z h (cs ++ ds) → AllTaken M z h cs × AllTaken M z (run_from M z h cs) ds
+  taken_parts h [] ds t = (tt, t)
+  taken_parts h (c ∷ cs) ds t = let (p, q) = taken_parts (after M z h c) cs ds t.1 in ((t.0, p), q)
+
+  pub taken_both : (h : History V) (cs ds : List Call) → AllTaken M z h cs → AllTaken M z (run_from M z h cs) ds → AllTaken M z h (cs ++ ds)
+  taken_both h [] ds p q = q
+  taken_both h (c ∷ cs) ds p q = (p.0, taken_both (after M z h c) cs ds p.1 q)
+
+module _ (m : Meaning ℕ) (some all : ℕ → Bool) (M : Payload ℕ) (z : Size) where
+  -- the lines of calls that are answered one after the other
+  abbrev pub lines_at : History ℕ → List Call → List MarkLine
+  lines_at h cs = lines m some all cs (outcomes_from M z h.state cs)
+
+  abbrev pub line_at : History ℕ → Call → List MarkLine
+  line_at h c = line m some all c.unit (answer_to M z c.unit c.act (h.state.rows c.unit) ((acted M z h.state c.unit c.act).rows c.unit))
+
+  -- An accepted call's line stands before those of the calls after it.
+  pub lines_more : (h : History ℕ) (c : Call) (cs : List Call) → refusal M z h.state c.unit c.act ≡ None → lines_at h (c ∷ cs) ≡ line_at h c ++ lines_at (after M z h c) cs
+  lines_more h c cs e =
+      ap (λ (o : Option Refusal). lines m some all (c ∷ cs) (answered o (answer_to M z c.unit c.act (h.state.rows c.unit) ((acted M z h.state c.unit c.act).rows c.unit)) ∷ outcomes_from M z (next M z h.state c) cs)) e
+
+  -- The lines of accepted calls and of those after them: the lines of the first and then of the others.
+  pub lines_append : (h : History ℕ) (cs ds : List Call) → AllTaken M z h cs → lines_at h (cs ++ ds) ≡ lines_at h cs ++ lines_at (run_from M z h cs) ds
+  lines_append h [] ds t = refl
+  lines_append h (c ∷ cs) ds t =
+      lines_more h c (cs ++ ds) t.0
+      ∙ ap (λ (l : List MarkLine). line_at h c ++ l) (lines_append (after M z h c) cs ds t.1)
+      ∙ sym (append_assoc (line_at h c) (lines_at (after M z h c) cs) (lines_at (run_from M z (after M z h c) cs) ds))
+      ∙ ap (λ (l : List MarkLine). l ++ lines_at (run_from M z (after M z h c) cs) ds) (sym (lines_more h c cs t.0))
+
+  -- Only a mark has a line.
+  line_counted : (u : ℕ) (e : Event) (r t : ℕ → Cell ℕ) → length (line m some all u (answer_to M z u e r t)) ≡ tick (Some e)
+  line_counted u (send p) r t = refl
+  line_counted u (receive p) r t = refl
+  line_counted u (mark l) r t = refl
+
+  -- There are as many lines of accepted calls as marks.
+  pub lines_count : (h : History ℕ) (cs : List Call) → AllTaken M z h cs → length (lines_at h cs) ≡ marks_among cs
+  lines_count h [] t = refl
+  lines_count h (c ∷ cs) t =
+      ap length (lines_more h c cs t.0)
+      ∙ length-append (line_at h c) (lines_at (after M z h c) cs)
+      ∙ ap₂ ◌+◌ (line_counted c.unit c.act (h.state.rows c.unit) ((acted M z h.state c.unit c.act).rows c.unit)) (lines_count (after M z h c) cs t.1)

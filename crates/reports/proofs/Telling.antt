@@ -1,0 +1,112 @@
+-- What is told of the marks of a recording, of accepted fronts.
+use Rattle.std.proofs.Common.{◌≡◌, ℕ, ◌+◌, Bool, List, [], ◌∷◌, ◌++◌, length, drop, Some, None, refl, sym, ap, ◌∙◌, subst, inl, inr}
+use Rattle.std.specs.List.{slice_get}
+use Rattle.history.specs.Events.{Events, mark}
+use Rattle.history.specs.Rows.{Payload}
+use Rattle.history.specs.Runs.{Size, Call, Run, by_unit, call, events_in}
+use Rattle.history.specs.Board.{History, marked, new_history, new_state, refusal, run, after as next}
+use Rattle.history.proofs.Accepting.{accepts_runs}
+use Rattle.history.specs.Limits.{most_marks}
+use Rattle.measures.specs.Measures.{Meaning}
+use Rattle.measures.specs.Worths.{carrying, sized}
+use Rattle.reports.specs.declared.faults.Reason.{Reason}
+use Rattle.reports.specs.declared.lines.MarkLine.{MarkLine}
+use Rattle.reports.specs.Commands.{calls_in}
+use Rattle.reports.specs.Laws.{Tells, marks_among, size_in}
+use Rattle.reports.specs.Recordings.{Told, line, told_nothing, told_on, told}
+use Rattle.reports.specs.Reports.{front_fault, judge_in, some_in, all_in, recording_at, told_in}
+use Rattle.reports.proofs.Judging.{sets_tell}
+use Rattle.reports.proofs.Marks.{seam, with_mark, events_are, mark_there, answer_is}
+use Rattle.reports.proofs.Reading.{reads, AllTaken, reads_taken, reads_ok, reads_lines, told_cases}
+use Rattle.reports.proofs.Taking.{taken_parts, line_at, lines_at, lines_more, lines_append, lines_count}
+
+-- What is true of a telling of nothing, and of what each board tells, is true of what a recording comes to.
+pub told_by : (m : Meaning ℕ) (some all : ℕ → Bool) (P : Told → Type 0) → ((reason : Reason) (place : ℕ) → P (told_nothing m some all reason place))
+    → ((n k place : ℕ) (bytes : List ℕ) → P (told_on m some all n k (new_state (carrying m n)) place bytes)) → (place : ℕ) (bytes : List ℕ) → P (told m some all place bytes)
+told_by m some all P none board place bytes = elim (told_cases m some all place bytes) [
+  | inl (reason, e) ↦ subst P (sym e) (none reason place)
+  | inr (n, k, rest, _, _, e) ↦ subst P (sym e) (board n k (place + 3) rest)
+]
+
+module _ (b : List ℕ) (sound : front_fault b ≡ None) (n k : ℕ) where
+  abbrev M : Payload ℕ
+  M = carrying (judge_in b) n
+
+  abbrev z : Size
+  z = sized (judge_in b) n k most_marks
+
+  abbrev new : History ℕ
+  new = new_history M
+
+  -- the lines of calls from a history on
+  abbrev lines_from : History ℕ → List Call → List MarkLine
+  lines_from h cs = lines_at (judge_in b) (some_in b) (all_in b) M z h cs
+
+  -- A mark after accepted calls has a line, which tells of the longest flows that end there.
+  mark_told : (before : List Call) (u l : ℕ) → AllTaken M z new before → refusal M z (run M z before).state u (mark l) ≡ None
+      → (line : MarkLine) × (line_at (judge_in b) (some_in b) (all_in b) M z (run M z before) (call u (mark l)) ≡ line ∷ []) × Tells b (events_in (with_mark before u l)) u (length (by_unit before u)) line
+  mark_told before u l t ok =
+      let (v, says) = sets_tell b sound n k most_marks (with_mark before u l) u (length (by_unit before u)) l (mark_there M z before u l t ok) in
+      let a = v.answered in
+      let told : MarkLine = record { unit = u; clock = a.clock; predecessors = a.predecessors; states = a.value; some = some_in b a.value; all = all_in b a.value } in (
+        told,
+        sym (ap (line (judge_in b) (some_in b) (all_in b) u) (answer_is M z before u l t ok (record { answer = marked a.clock a.predecessors a.value; stamp = a.stamp }) a.told)),
+        subst (λ (ev : Events). Tells b ev u (length (by_unit before u)) told) (events_are M z before u l t ok)
+            (record { unit_is = refl; clock_is = a.clock_is; predecessors_are = a.predecessors_are; states_are = says.0; verdict = says.1 }),
+      )
+
+  -- The calls before the first refusal are a run.
+  run_on : (cs : List Call) → Run z (reads M z (new_state M) cs)
+  run_on cs = subst (Run z) (reads_ok M z new cs) (accepts_runs M z (reads M z (new_state M) cs)).accepted_run
+
+  -- There is a line for each mark among them.
+  lines_on : (cs : List Call) → length (lines_from new cs) ≡ marks_among (reads M z (new_state M) cs)
+  lines_on cs =
+      ap length (reads_lines (judge_in b) (some_in b) (all_in b) M z new cs)
+      ∙ lines_count (judge_in b) (some_in b) (all_in b) M z new (reads M z (new_state M) cs) (reads_taken M z new cs)
+
+  -- And it tells of the longest flows of the calls up to that mark.
+  line_on : (cs before after : List Call) (u l : ℕ) → reads M z (new_state M) cs ≡ before ++ call u (mark l) ∷ after
+      → (line : MarkLine) × (slice_get (lines_from new cs) (marks_among before) ≡ Some line) × Tells b (events_in (with_mark before u l)) u (length (by_unit before u)) line
+  line_on cs before after u l e =
+      let (t, rest) = taken_parts M z new before (call u (mark l) ∷ after) (subst (AllTaken M z new) e (reads_taken M z new cs)) in
+      let (told, is, tells) = mark_told before u l t rest.0 in
+      let later = lines_from (next M z (run M z before) (call u (mark l))) after in (
+        told,
+        ap (λ (ls : List MarkLine). slice_get ls (marks_among before))
+            (reads_lines (judge_in b) (some_in b) (all_in b) M z new cs
+            ∙ ap (lines_from new) e
+            ∙ lines_append (judge_in b) (some_in b) (all_in b) M z new before (call u (mark l) ∷ after) t
+            ∙ ap (λ (ls : List MarkLine). lines_from new before ++ ls)
+            (lines_more (judge_in b) (some_in b) (all_in b) M z (run M z before) (call u (mark l)) after rest.0 ∙ ap (λ (ls : List MarkLine). ls ++ later) is))
+            ∙ ap (slice_get (lines_from new before ++ told ∷ later)) (sym (lines_count (judge_in b) (some_in b) (all_in b) M z new before t))
+            ∙ seam (lines_from new before) told later,
+        tells,
+      )
+
+module _ (b : List ℕ) (sound : front_fault b ≡ None) where
+  -- The calls read of a recording are what a real run could do.
+  pub run_told : Run (size_in b) (told_in b).calls
+  run_told =
+      told_by (judge_in b) (some_in b) (all_in b) (λ t. Run (sized (judge_in b) t.units t.messages most_marks) t.calls) (λ reason place. tt)
+      (λ n k place bytes. run_on b sound n k (calls_in bytes)) (recording_at b) (drop (recording_at b) b)
+
+  -- There is a line for each mark read, and no other.
+  pub lines_told : length (told_in b).lines ≡ marks_among (told_in b).calls
+  lines_told =
+      told_by (judge_in b) (some_in b) (all_in b) (λ t. length t.lines ≡ marks_among t.calls) (λ reason place. refl)
+      (λ n k place bytes. lines_on b sound n k (calls_in bytes)) (recording_at b) (drop (recording_at b) b)
+
+  -- And it tells of the longest flows of the calls read up to that mark.
+  pub line_told : (before after : List Call) (u l : ℕ) → (told_in b).calls ≡ before ++ call u (mark l) ∷ after
+      → (line : MarkLine) × (slice_get (told_in b).lines (marks_among before) ≡ Some line) × Tells b (events_in (before ++ call u (mark l) ∷ [])) u (length (by_unit before u)) line
+  line_told =
+      told_by (judge_in b) (some_in b) (all_in b)
+      (λ t. (before after : List Call) (u l : ℕ) → t.calls ≡ before ++ call u (mark l) ∷ after
+      → (line : MarkLine) × (slice_get t.lines (marks_among before) ≡ Some line) × Tells b (events_in (before ++ call u (mark l) ∷ [])) u (length (by_unit before u)) line)
+      (λ reason place before after u l e. absurd (none before u l after e))
+      (λ n k place bytes. line_on b sound n k (calls_in bytes)) (recording_at b) (drop (recording_at b) b)
+    where
+      none : (before : List Call) (u l : ℕ) (after : List Call) → [] ≡ before ++ call u (mark l) ∷ after → ⊥
+      none [] u l after e = cc
+      none (c ∷ before) u l after e = cc

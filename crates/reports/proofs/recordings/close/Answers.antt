@@ -1,0 +1,19 @@
+use Rattle.std.specs.Prelude.{slice_index_or}
+use Rattle.std.proofs.Common.{◌≡◌, ℕ, Bool, true, Ok, rules, ap, ◌∙◌}
+use Rattle.history.specs.declared.messages.Post.TheVariants.{Unsent}
+use Rattle.history.specs.Board.{State}
+use Rattle.causality.specs.Boards.{Memory, Shows, travelling, left_answer}
+use Rattle.causality.proofs.Leaving.{travelling_same}
+use Rattle.measures.specs.Calls.{lent}
+use Rattle.reports.proofs.recordings.close.Goals as goal
+
+-- Of a memory that shows a state it is told how many messages are on their way in it.
+left_told : {V : Type 0} (start : V) (n k : ℕ) (memory : Memory V) (room : Bool) → room ≡ true → (s : State V) → Shows start n k memory s → left_answer k room memory.posts ≡ Ok (travelling s.posts k)
+left_told start n k memory room there s shows =
+    ap (λ (r : Bool). left_answer k r memory.posts) there ∙ ap (λ (t : ℕ). Ok t) (travelling_same (λ p. slice_index_or memory.posts p Unsent) s.posts k shows.posts)
+
+pub returns : goal.returns
+returns g c s shows =
+    let a = c.args in
+    let told = left_told (g.J.Measure.meaning a.board.now.measure).start a.board.now.board.units a.board.now.board.messages (lent a.clocks.now a.flags.now a.values.now a.posts.now) _ c.requires.room s shows in
+    search (told, rules)

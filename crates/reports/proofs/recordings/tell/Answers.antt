@@ -1,0 +1,62 @@
+use Rattle.std.proofs.Common.{rules, ◌≡◌, ◌+◌, ℕ, suc, List, length, Some, Err, replicate, sym, arith, ◌∙◌, ap, ap₂}
+use Rattle.std.proofs.lemmas.List.{length-replicate}
+use Rattle.history.specs.declared.messages.Post.TheVariants.{Unsent}
+use Rattle.history.specs.declared.refusals.Refusal.{Refusal}
+use Rattle.history.specs.Limits.{most_messages}
+use Rattle.history.specs.Board.{new_state}
+use Rattle.causality.specs.Boards.{make_refusal}
+use Rattle.measures.specs.Calls.{has_rooms, lent}
+use Rattle.measures.specs.Worths.{carrying}
+use Rattle.reports.specs.declared.commands.Command.TheVariants.{Make}
+use Rattle.reports.specs.declared.faults.RecordingFault.{RecordingFault}
+use Rattle.reports.specs.Faults.{broken}
+use Rattle.reports.proofs.FirstCommands.{begins}
+use Rattle.reports.proofs.Opening.{made_by_size, board_refused, board_made, made_with}
+use Rattle.reports.proofs.Placing.{placed_ok, placed_err, owes_ok, owes_err, answered_ok, answered_err, read_ok}
+use Rattle.reports.proofs.recordings.tell.Goals as goal
+
+pub returns-in_err-board-clause-tells : goal.returns-in_err-board-clause-tells
+returns-in_err-board-clause-tells g c =
+    let a = c.args in
+    let n = c.from-units.result in
+    let k = c.from-messages.result in
+    let size : Make c.in-Make.units c.in-Make.messages ≡ Make n k = ap₂ (λ (u v : ℕ). Make u v) (sym c.from-units.ensures) (sym c.from-messages.ensures) in
+    let first = read_ok a.bytes.now a.place c.first_command.result c.first_command.ensures c.placed.ensures c.in_ok-command.was (c.in-Make.is ∙ size) in
+    let room = has_rooms n k c.new-clocks.result c.new-flags.result c.new-values.result (replicate most_messages Unsent) in
+    let by_size = made_by_size n k (omega arith) c.new-clocks.result c.new-flags.result c.new-values.result (replicate most_messages Unsent)
+    c.new-clocks.ensures.width c.new-flags.ensures.width c.new-values.ensures.width (search rules) (search rules) (search rules) (length-replicate most_messages Unsent) in
+    let (none, at) = placed_err a.place c.answered.result c.placed-2.ensures c.in_err-board.was in
+    let (e, refused, why) = answered_err c.make-made.result c.answered.ensures none in
+    let asked = owes_err _ (λ (d : Refusal). make_refusal n k room ≡ Some d) c.make-made.result c.make-made.ensures.answer e refused in
+    let carried : c.from_residual-in_err-board.result ≡ Err c.in_err-board.field-0.0 = search rules in
+    board_refused (g.J.Measure.meaning a.judge) (g.J.Judge.some_of a.judge) (g.J.Judge.all_of a.judge) a.place a.bytes.now c.in_ok-command.rest.now n k first e (sym by_size ∙ asked)
+    a.page.now.text _ (carried ∙ ap (λ (f : RecordingFault). Err f) (at ∙ ap (λ q. broken q a.place) why))
+
+pub returns-clause-tells : goal.returns-clause-tells
+returns-clause-tells g c =
+    let a = c.args in
+    let rest = c.in_ok-command.rest.now in
+    let n = c.from-units.result in
+    let k = c.from-messages.result in
+    let old = a.page.now.text in
+    let new = c.follow.new.page.text in
+    let board = c.in_ok-board.board in
+    let size : Make c.in-Make.units c.in-Make.messages ≡ Make n k = ap₂ (λ (u v : ℕ). Make u v) (sym c.from-units.ensures) (sym c.from-messages.ensures) in
+    let first = read_ok a.bytes.now a.place c.first_command.result c.first_command.ensures c.placed.ensures c.in_ok-command.was (c.in-Make.is ∙ size) in
+    let by_size = made_by_size n k (omega arith) c.new-clocks.result c.new-flags.result c.new-values.result (replicate most_messages Unsent)
+    c.new-clocks.ensures.width c.new-flags.ensures.width c.new-values.ensures.width (search rules) (search rules) (search rules) (length-replicate most_messages Unsent) in
+    let made = answered_ok c.make-made.result c.answered.ensures (placed_ok a.place c.answered.result c.placed-2.ensures c.in_ok-board.was) in
+    let (asked, units, messages, measure) = owes_ok _ _ c.make-made.result c.make-made.ensures.answer board made in
+    board_made (g.J.Measure.meaning a.judge) (g.J.Judge.some_of a.judge) (g.J.Judge.all_of a.judge) a.place a.bytes.now rest n k first (sym by_size ∙ asked) old new c.follow.result
+    (made_with g.J.Measure.meaning g.J.Judge.some_of g.J.Judge.all_of a.judge board.measure measure n board.board.units units k board.board.messages messages
+    (lent c.make-made.new.clocks c.make-made.new.flags c.make-made.new.values c.make-made.new.posts) old new (a.place + 3) rest c.follow.result c.follow.ensures.tells
+    (new_state (carrying (g.J.Measure.meaning a.judge) n)) (c.make-made.ensures.memory.state asked))
+
+pub returns-clause-long : goal.returns-clause-long
+returns-clause-long g c =
+    let a = c.args in
+    let first = read_ok a.bytes.now a.place c.first_command.result c.first_command.ensures c.placed.ensures c.in_ok-command.was c.in-Make.is in
+    let (calls, b, is, made) = begins a.bytes.now _ first in
+    let size : length a.bytes.now ≡ suc (suc (suc (length c.in_ok-command.rest.now))) = ap (λ (ys : List ℕ). length ys) is in
+    let long = c.follow.ensures.long in
+    omega arith

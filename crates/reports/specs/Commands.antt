@@ -1,0 +1,44 @@
+-- The commands of a recording: each is its first byte, its operands of one byte each, and the rest.
+use Rattle.std.specs.Prelude.{ℕ, if◌then◌else◌, List, [], ◌∷◌, Ok, Err, Result, Some, None, Option, ◌==◌}
+use Rattle.history.specs.Events.{Event, send, receive, mark}
+use Rattle.history.specs.Runs as rules
+use Rattle.history.specs.Runs.{call}
+use Rattle.measures.specs.declared.calls.Event.TheVariants.{Send, Receive, Mark}
+use Rattle.reports.specs.declared.commands.Command.{Command}
+use Rattle.reports.specs.declared.commands.Command.TheVariants.{Make, Call, End}
+use Rattle.reports.specs.declared.faults.Reason.{Reason}
+use Rattle.reports.specs.declared.faults.Reason.TheVariants.{NoByte, NoCommand, NoOperands}
+
+-- two operands, and the rest
+abbrev pub with_two : (ℕ → ℕ → Command) → List ℕ → Result (Command × List ℕ) Reason
+with_two command [] = Err NoOperands
+with_two command (x ∷ []) = Err NoOperands
+with_two command (x ∷ (y ∷ rest)) = Ok (command x y, rest)
+
+-- The first command of some bytes and the bytes after it, or why there is none: 10 makes a board of so many units and messages, 01 is a
+-- send and 02 a receipt, by a unit, of a message; 03 is a mark of a unit with a label, and 00 the end. Bytes are in hexadecimal.
+abbrev pub first_command : List ℕ → Result (Command × List ℕ) Reason
+first_command [] = Err NoByte
+first_command (b ∷ rest) =
+    if b == 0x10 then with_two Make rest
+    else if b == 0x01 then with_two (λ u m. Call (record { unit = u; event = Send m })) rest
+    else if b == 0x02 then with_two (λ u m. Call (record { unit = u; event = Receive m })) rest
+    else if b == 0x03 then with_two (λ u l. Call (record { unit = u; event = Mark l })) rest
+    else if b == 0x00 then Ok (End, rest)
+    else Err NoCommand
+
+-- what the first byte of a send, a receipt or a mark and its second operand say
+abbrev pub event_in : ℕ → ℕ → Option Event
+event_in b x = if b == 0x01 then Some (send x) else if b == 0x02 then Some (receive x) else if b == 0x03 then Some (mark x) else None
+
+-- a call before others, if there is one; else none
+abbrev pub begun : ℕ → Option Event → List rules.Call → List rules.Call
+begun u None cs = []
+begun u (Some e) cs = call u e ∷ cs
+
+-- The calls at the front of some bytes: sends, receipts and marks, of three bytes each, up to the first command that is none of them.
+abbrev pub calls_in : List ℕ → List rules.Call
+calls_in [] = []
+calls_in (b ∷ []) = []
+calls_in (b ∷ (u ∷ [])) = []
+calls_in (b ∷ (u ∷ (x ∷ rest))) = begun u (event_in b x) (calls_in rest)

@@ -1,0 +1,55 @@
+-- The faults that end a report, each with the letter of its layer, its number and its place.
+use Rattle.std.specs.Prelude.{ℕ, List, codes}
+use Rattle.history.specs.Refusals as board
+use Rattle.measures.specs.Refusals as readers
+use Rattle.text.specs.Inputs.{most_bytes}
+use Rattle.reports.specs.declared.faults.Reason.{Reason}
+use Rattle.reports.specs.declared.faults.Reason.TheVariants.{NoByte, NoCommand, NoOperands, NoBoard, SecondBoard, BytesAfterEnd, Refused}
+use Rattle.reports.specs.declared.faults.RecordingFault.{RecordingFault}
+use Rattle.reports.specs.declared.faults.Fault.{Fault}
+use Rattle.reports.specs.declared.faults.Fault.TheVariants.{TooLong, Pattern, Relabelling, Recording}
+
+-- The number of each reason why a recording breaks off; a board's refusal keeps its own.
+abbrev pub reason_number : Reason → ℕ
+reason_number NoByte = 23
+reason_number NoCommand = 24
+reason_number NoOperands = 25
+reason_number NoBoard = 26
+reason_number SecondBoard = 27
+reason_number BytesAfterEnd = 28
+reason_number (Refused r) = board.number r
+
+-- the layer that meets it: the board, or the recording's own form
+abbrev pub reason_letter : Reason → List ℕ
+reason_letter NoByte = codes "R"
+reason_letter NoCommand = codes "R"
+reason_letter NoOperands = codes "R"
+reason_letter NoBoard = codes "R"
+reason_letter SecondBoard = codes "R"
+reason_letter BytesAfterEnd = codes "R"
+reason_letter (Refused r) = codes "B"
+
+-- a reason why a recording breaks off, met at a byte of the input
+abbrev pub broken : Reason → ℕ → RecordingFault
+broken reason place = record { reason = reason; place = place }
+
+-- The letter of the layer that meets each fault: input, pattern, relabelling, recording or board.
+abbrev pub letter : Fault → List ℕ
+letter TooLong = codes "I"
+letter (Pattern f) = codes "P"
+letter (Relabelling f) = codes "L"
+letter (Recording f) = reason_letter f.reason
+
+-- The number of each fault.
+abbrev pub number : Fault → ℕ
+number TooLong = 29
+number (Pattern f) = readers.number f.refusal
+number (Relabelling f) = readers.number f.refusal
+number (Recording f) = reason_number f.reason
+
+-- The byte of the input at which each fault is told.
+abbrev pub place : Fault → ℕ
+place TooLong = most_bytes
+place (Pattern f) = f.place
+place (Relabelling f) = f.place
+place (Recording f) = f.place

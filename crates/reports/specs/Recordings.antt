@@ -1,0 +1,98 @@
+-- What a recording comes to, under a judge of sets of states.
+use Rattle.std.specs.Prelude.{ℕ, ◌+◌, ◌*◌, Bool, true, List, [], ◌∷◌, ◌++◌, length, drop, Ok, Err, Result, Some, None, Option}
+use Rattle.history.specs.declared.refusals.Refusal.{Refusal}
+use Rattle.history.specs.Board.{State, Answer, own_clock, marked, new_state, outcomes_from, state_from}
+use Rattle.history.specs.Runs.{Call}
+use Rattle.history.specs.Limits.{most_marks}
+use Rattle.causality.specs.Boards.{make_refusal, travelling}
+use Rattle.measures.specs.Measures.{Meaning}
+use Rattle.measures.specs.Worths.{carrying, sized}
+use Rattle.reports.specs.declared.commands.Command.{Command}
+use Rattle.reports.specs.declared.commands.Command.TheVariants as commands
+use Rattle.reports.specs.declared.faults.Reason.{Reason}
+use Rattle.reports.specs.declared.faults.Reason.TheVariants.{NoBoard, SecondBoard, BytesAfterEnd, Refused}
+use Rattle.reports.specs.declared.faults.RecordingFault.{RecordingFault}
+use Rattle.reports.specs.declared.lines.MarkLine.{MarkLine}
+use Rattle.reports.specs.Commands.{first_command, calls_in}
+use Rattle.reports.specs.Faults.{broken}
+
+-- What a recording comes to: the numbers of units and of messages of the board that it makes, or 0 where it makes none; the calls that were
+-- read, up to its end or to where it breaks off; the lines of their marks; and the number of messages that are left on their way, or why and
+-- where it breaks off.
+pub record Told : Type 0 where
+  pub units : ℕ
+  pub messages : ℕ
+  pub calls : List Call
+  pub lines : List MarkLine
+  pub end : Result ℕ RecordingFault
+
+-- How the bytes after the calls close a recording, with so many messages on their way: they are the end alone, or they break it off. No call begins
+-- them, so the last case does not arise.
+abbrev pub closed : ℕ → ℕ → Result (Command × List ℕ) Reason → Result ℕ RecordingFault
+closed left place (Err reason) = Err (broken reason place)
+closed left place (Ok (commands.End, [])) = Ok left
+closed left place (Ok (commands.End, x ∷ rest)) = Err (broken BytesAfterEnd (place + 1))
+closed left place (Ok (commands.Make n k, rest)) = Err (broken SecondBoard place)
+closed left place (Ok (commands.Call c, rest)) = Err (broken SecondBoard place)
+
+-- Where the first refusal among the answers to calls of three bytes each, the first at a byte of the input, breaks a recording off;
+-- else it ends as the bytes after the calls say.
+abbrev pub ending : {V : Type 0} → ℕ → List (Result (Answer V) Refusal) → Result ℕ RecordingFault → Result ℕ RecordingFault
+ending place [] closing = closing
+ending place (Ok a ∷ xs) closing = ending (place + 3) xs closing
+ending place (Err e ∷ xs) closing = Err (broken (Refused e) place)
+
+-- the calls before the first that is refused
+abbrev pub before_refusal : {V : Type 0} → List Call → List (Result (Answer V) Refusal) → List Call
+before_refusal [] xs = []
+before_refusal (c ∷ cs) [] = []
+before_refusal (c ∷ cs) (Ok a ∷ xs) = c ∷ before_refusal cs xs
+before_refusal (c ∷ cs) (Err e ∷ xs) = []
+
+module _ (m : Meaning ℕ) (some all : ℕ → Bool) where
+  -- the line of an accepted call of unit u: only a mark has one
+  abbrev pub line : ℕ → Answer ℕ → List MarkLine
+  line u (own_clock clock) = []
+  line u (marked clock predecessors v) =
+      record { unit = u; clock = clock; predecessors = predecessors; states = v; some = some v; all = all v } ∷ []
+
+  -- the lines of the calls before the first that is refused
+  abbrev pub lines : List Call → List (Result (Answer ℕ) Refusal) → List MarkLine
+  lines [] xs = []
+  lines (c ∷ cs) [] = []
+  lines (c ∷ cs) (Ok a ∷ xs) = line c.unit a ++ lines cs xs
+  lines (c ∷ cs) (Err e ∷ xs) = []
+
+  -- What a board of n units and k messages in a state tells of the calls at the front of some bytes, which begin at a byte of the input.
+  abbrev pub told_on : ℕ → ℕ → State ℕ → ℕ → List ℕ → Told
+  told_on n k s place bytes =
+      let cs = calls_in bytes in
+      let xs = outcomes_from (carrying m n) (sized m n k most_marks) s cs in
+      let left = travelling (state_from (carrying m n) (sized m n k most_marks) s cs).posts k in
+      record {
+        units = n;
+        messages = k;
+        calls = before_refusal cs xs;
+        lines = lines cs xs;
+        end = ending place xs (closed left (place + 3 * length cs) (first_command (drop (3 * length cs) bytes)));
+      }
+
+  -- what breaks off before any call tells nothing
+  abbrev pub told_nothing : Reason → ℕ → Told
+  told_nothing reason place = record { units = 0; messages = 0; calls = []; lines = []; end = Err (broken reason place) }
+
+  -- a recording by its making, which is refused for its size, or makes the board on which the rest is told
+  abbrev pub told_of_board : ℕ → ℕ → ℕ → List ℕ → Option Refusal → Told
+  told_of_board n k place bytes (Some e) = told_nothing (Refused e) place
+  told_of_board n k place bytes None = told_on n k (new_state (carrying m n)) (place + 3) bytes
+
+  -- a recording by its first command, which begins at a byte of the input
+  abbrev pub told_from : ℕ → Result (Command × List ℕ) Reason → Told
+  told_from place (Err reason) = told_nothing reason place
+  told_from place (Ok (commands.Make n k, rest)) = told_of_board n k place rest (make_refusal n k true)
+  told_from place (Ok (commands.Call c, rest)) = told_nothing NoBoard place
+  told_from place (Ok (commands.End, rest)) = told_nothing NoBoard place
+
+  -- What a recording in some bytes comes to, which begin at a byte of the input: its first command makes the board.
+  abbrev pub told : ℕ → List ℕ → Told
+  told place bytes = told_from place (first_command bytes)

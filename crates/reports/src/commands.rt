@@ -1,0 +1,46 @@
+// The commands of a recording.
+ghost use Rattle.std.specs.Prelude.{◌≡◌, Ok, Err, MatchResult};
+ghost use Rattle.reports.specs.Commands.{first_command as first_in};
+ghost use Rattle.reports.specs.declared.commands.Command.TheVariants.{Call as called};
+
+use super::faults::Reason;
+use measures::{Call, Event};
+
+// A command: to make a board of so many units and messages, to hand it a call, or to end.
+#[derive(Clone, Copy, PartialEq, Eq, Debug)]
+pub(crate) enum Command {
+    Make(u8, u8),
+    Call(Call),
+    End,
+}
+
+// The command that hands a unit's event to the board.
+fn call(unit: u8, event: Event) -> Command
+    ensures { result ≡ called (record { unit = unit; event = event }) }
+{
+    Command::Call(Call {
+        unit: unit as usize,
+        event,
+    })
+}
+
+// The first command of some bytes, and the bytes after it; or why there is none.
+#[inline(always)]
+pub(crate) fn first_command(bytes: &[u8]) -> Result<(Command, &[u8]), Reason>
+    ensures { MatchResult result (λ r. first_in bytes.now ≡ Ok (r.0, r.1.now)) (λ e. first_in bytes.now ≡ Err e) }
+{
+    match bytes {
+        [] => Err(Reason::NoByte),
+        [0x10, units, messages, rest @ ..] => Ok((Command::Make(*units, *messages), rest)),
+        [0x01, unit, message, rest @ ..] => {
+            Ok((call(*unit, Event::Send(*message as usize)), rest))
+        }
+        [0x02, unit, message, rest @ ..] => {
+            Ok((call(*unit, Event::Receive(*message as usize)), rest))
+        }
+        [0x03, unit, label, rest @ ..] => Ok((call(*unit, Event::Mark(*label)), rest)),
+        [0x00, rest @ ..] => Ok((Command::End, rest)),
+        [0x10 | 0x01 | 0x02 | 0x03, ..] => Err(Reason::NoOperands),
+        [_, ..] => Err(Reason::NoCommand),
+    }
+}

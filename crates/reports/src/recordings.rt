@@ -1,0 +1,197 @@
+// A recording, read command by command and handed to a board.
+ghost use Rattle.std.specs.Prelude.{◌≡◌, ℕ, ◌+◌, ◌*◌, ◌^◌, ◌<◌, ◌≤◌, true, length, Ok, Result};
+ghost use Rattle.history.specs.declared.refusals.Refusal.{Refusal as ghost_refusal};
+ghost use Rattle.history.specs.Board.{State, Answer};
+ghost use Rattle.grid.specs.Grids.{SameLoan};
+ghost use Rattle.causality.specs.Boards.{Shows, travelling};
+ghost use Rattle.measures.specs.Boards.{Obeys};
+ghost use Rattle.measures.specs.Calls.{lent, has_rooms, handed};
+ghost use Rattle.reports.specs.Recordings.{closed, told_on, told};
+ghost use Rattle.reports.specs.Steps.{placed_at, refused_as, shown, Wrote};
+ghost use Rattle.reports.specs.declared.commands.Command.TheVariants.{End};
+
+use super::commands::{Command, first_command};
+use super::faults::{Reason, RecordingFault};
+use super::lines::{MarkLine, Page, push_mark};
+use causality::{Clock, MAX_MESSAGES, MAX_UNITS};
+use grid::Grid;
+use history::{Post, Refusal};
+use measures::{Call, Event, Judge, JudgedMark, MeasuredBoard};
+
+// The most cells of a grid: a row for each unit and for each message, with a cell for each unit.
+const MOST_CELLS: usize = (MAX_UNITS + MAX_MESSAGES) * MAX_UNITS;
+
+// The line of a mark of a unit.
+fn line_of_mark(unit: usize, told: JudgedMark<u64>) -> MarkLine
+    ensures { result ≡ record { unit = unit; clock = told.mark.clock; predecessors = told.mark.predecessors; states = told.mark.value; some = told.verdict.some; all = told.verdict.all } }
+{
+    MarkLine {
+        unit,
+        clock: told.mark.clock,
+        predecessors: told.mark.predecessors,
+        states: told.mark.value,
+        some: told.verdict.some,
+        all: told.verdict.all,
+    }
+}
+
+// What was read or done, or why the recording breaks off at a byte of the input.
+fn placed<T>(told: Result<T, Reason>, place: usize) -> Result<T, RecordingFault>
+    ensures { result ≡ placed_at told place }
+{
+    told.map_err(|reason| RecordingFault { reason, place })
+}
+
+// What a board answers, or its refusal as the reason why the recording breaks off.
+fn answered<T>(told: Result<T, Refusal>) -> Result<T, Reason>
+    ensures { result ≡ refused_as told }
+{
+    Ok(told?)
+}
+
+// Hands one call to a board. Answers the line of a mark; the board's own `hand` has no verdict for it.
+fn hand<J: Judge<Value = u64>>(
+    board: &MeasuredBoard<J>,
+    clocks: &mut Grid<'_, Clock>,
+    flags: &mut Grid<'_, bool>,
+    values: &mut Grid<'_, u64>,
+    posts: &mut [Post],
+    call: Call,
+) -> Result<Option<MarkLine>, Reason>
+    ensures follows { (answer : Result (Answer ℕ) ghost_refusal) × Obeys (J.Measure.meaning board.now.measure) board.now.board.units board.now.board.messages (handed call) (has_rooms board.now.board.units board.now.board.messages clocks.old flags.old values.old posts.old) (lent clocks.old flags.old values.old posts.old) (lent clocks.new flags.new values.new posts.new) answer × (result ≡ shown (J.Judge.some_of board.now.measure) (J.Judge.all_of board.now.measure) call.unit answer) }
+    ensures clocks_loan { SameLoan clocks.old clocks.new }
+    ensures flags_loan { SameLoan flags.old flags.new }
+    ensures values_loan { SameLoan values.old values.new }
+{
+    match call.event {
+        Event::Send(message) => {
+            board.send(clocks, flags, values, posts, call.unit, message)?;
+            Ok(None)
+        }
+        Event::Receive(message) => {
+            board.receive(clocks, flags, values, posts, call.unit, message)?;
+            Ok(None)
+        }
+        Event::Mark(label) => {
+            let told = board.mark_judged(clocks, flags, values, posts, call.unit, label)?;
+            Ok(Some(line_of_mark(call.unit, told)))
+        }
+    }
+}
+
+// How a recording ends whose end stands at a byte of the input: nothing may come after it. Answers how many messages are left on their way.
+fn close<J: Judge<Value = u64>>(
+    board: &MeasuredBoard<J>,
+    clocks: &Grid<'_, Clock>,
+    flags: &Grid<'_, bool>,
+    values: &Grid<'_, u64>,
+    posts: &[Post],
+    after: &[u8],
+    place: usize,
+) -> Result<usize, RecordingFault>
+    requires room { has_rooms board.now.board.units board.now.board.messages clocks.now flags.now values.now posts.now ≡ true }
+    requires place { place + 1 < 2 ^ 64 }
+    ensures { (s : State ℕ) → Shows (J.Measure.meaning board.now.measure).start board.now.board.units board.now.board.messages (lent clocks.now flags.now values.now posts.now) s → result ≡ closed (travelling s.posts board.now.board.messages) place (Ok (End, after.now)) }
+{
+    if !after.is_empty() {
+        return Err(RecordingFault {
+            reason: Reason::BytesAfterEnd,
+            place: place + 1,
+        });
+    }
+    let left = board.left(clocks, flags, values, posts);
+    placed(answered(left), place)
+}
+
+// Reads the commands from a byte of the input on, and hands the calls to a board, up to the end or to where the recording breaks off. A mark's line
+// is written: at most 84 bytes for a mark's 3, so 28 for each byte. Answers how many messages are left on their way.
+fn follow<J: Judge<Value = u64>>(
+    page: &mut Page,
+    board: &MeasuredBoard<J>,
+    clocks: &mut Grid<'_, Clock>,
+    flags: &mut Grid<'_, bool>,
+    values: &mut Grid<'_, u64>,
+    posts: &mut [Post],
+    bytes: &[u8],
+    from: usize,
+) -> Result<usize, RecordingFault>
+    requires room { has_rooms board.now.board.units board.now.board.messages clocks.old flags.old values.old posts.old ≡ true }
+    requires places { from + length bytes.now < 2 ^ 64 }
+    requires space { length page.old.text + 28 * length bytes.now ≤ page.old.room }
+    ensures tells { (s : State ℕ) → Shows (J.Measure.meaning board.now.measure).start board.now.board.units board.now.board.messages (lent clocks.old flags.old values.old posts.old) s → Wrote page.old.text page.new.text (told_on (J.Measure.meaning board.now.measure) (J.Judge.some_of board.now.measure) (J.Judge.all_of board.now.measure) board.now.board.units board.now.board.messages s from bytes.now) result }
+    ensures long { length page.new.text ≤ length page.old.text + 28 * length bytes.now }
+    ensures room { page.old.room ≤ page.new.room }
+{
+    let mut rest = bytes;
+    let mut place = from;
+    loop {
+        let (command, after) = placed(first_command(rest), place)?;
+        match command {
+            Command::Call(call) => {
+                let told = hand(board, clocks, flags, values, posts, call);
+                if let Some(line) = placed(told, place)? {
+                    push_mark(page, line);
+                }
+            }
+            Command::End => {
+                return close(board, clocks, flags, values, posts, after, place);
+            }
+            Command::Make(_, _) => {
+                let reason = Reason::SecondBoard;
+                return Err(RecordingFault { reason, place });
+            }
+        }
+        rest = after;
+        place += 3;
+    }
+}
+
+// Reads a recording from a byte of the input on: its first command makes the board, under the judge. Writes the lines of its marks, and answers
+// how many messages are left on their way.
+pub(crate) fn tell<J: Judge<Value = u64> + Drop>(
+    page: &mut Page,
+    judge: J,
+    bytes: &[u8],
+    place: usize,
+) -> Result<usize, RecordingFault>
+    requires places { place + length bytes.now < 2 ^ 64 }
+    requires space { length page.old.text + 28 * length bytes.now ≤ page.old.room }
+    ensures tells { Wrote page.old.text page.new.text (told (J.Measure.meaning judge) (J.Judge.some_of judge) (J.Judge.all_of judge) place bytes.now) result }
+    ensures long { length page.new.text ≤ length page.old.text + 28 * length bytes.now }
+    ensures room { page.old.room ≤ page.new.room }
+{
+    let (command, rest) = placed(first_command(bytes), place)?;
+    let Command::Make(units, messages) = command else {
+        let reason = Reason::NoBoard;
+        return Err(RecordingFault { reason, place });
+    };
+    let units = usize::from(units);
+    let messages = usize::from(messages);
+    let mut clocks = [0; MOST_CELLS];
+    let mut flags = [false; MOST_CELLS];
+    let mut values = [0; MOST_CELLS];
+    let mut posts = [Post::Unsent; MAX_MESSAGES];
+    let mut clocks = Grid::new(&mut clocks, units);
+    let mut flags = Grid::new(&mut flags, units);
+    let mut values = Grid::new(&mut values, units);
+    let made = MeasuredBoard::make(
+        judge,
+        units,
+        messages,
+        &mut clocks,
+        &mut flags,
+        &mut values,
+        &mut posts,
+    );
+    let board = placed(answered(made), place)?;
+    follow(
+        page,
+        &board,
+        &mut clocks,
+        &mut flags,
+        &mut values,
+        &mut posts,
+        rest,
+        place + 3,
+    )
+}
