@@ -32,8 +32,8 @@ travelling_front posts k count h e = e ∙ travelling_take posts k h
 pub each_shows : {V : Type 0} (start : V) (n k : ℕ) → EachShows start n k
 each_shows start n k memory = (
   record {
-    rows = λ u j. record { clock = get_or memory.clocks (u * n + j) 0; flag = get_or memory.flags (u * n + j) false; value = get_or memory.values (u * n + j) start };
-    message_rows = λ m j. record { clock = get_or memory.clocks ((n + m) * n + j) 0; flag = get_or memory.flags ((n + m) * n + j) false; value = get_or memory.values ((n + m) * n + j) start };
+    rows = λ u j. record { clock = get_or memory.clocks.cells.now (u * n + j) 0; flag = get_or memory.flags.cells.now (u * n + j) false; value = get_or memory.values.cells.now (u * n + j) start };
+    message_rows = λ m j. record { clock = get_or memory.clocks.cells.now ((n + m) * n + j) 0; flag = get_or memory.flags.cells.now ((n + m) * n + j) false; value = get_or memory.values.cells.now ((n + m) * n + j) start };
     posts = λ m. get_or memory.posts m Unsent;
   },
   record {

@@ -1,22 +1,19 @@
 -- The making of a board: the rows and message states that it has are new.
-use Rattle.std.proofs.Common.{◌≡◌, ℕ, ◌+◌, ◌*◌, ◌<◌, ◌≤◌, Bool, true, false, List, [], ◌++◌, length, drop, replicate, None, Some, Ok, Option, Result, get_or, refl, ap, ◌∙◌, if◌then◌else◌, is_ok, arith}
+use Rattle.std.proofs.Common.{◌≡◌, ℕ, ◌+◌, ◌*◌, ◌<◌, ◌≤◌, Bool, true, false, List, ◌++◌, length, drop, replicate, None, Some, Option, get_or, ap, ◌∙◌, if◌then◌else◌, arith}
 use Rattle.std.proofs.lemmas.Grind.{common_steps}
 use Rattle.std.proofs.lemmas.Bool.Decides.{nat_tests}
 use Rattle.std.proofs.lemmas.List.{places}
 use Rattle.grid.specs.declared.Grid.{Grid}
-use Rattle.grid.specs.declared.errors.GridError.{GridError}
-use Rattle.grid.specs.declared.errors.GridError.TheVariants.{NoSuchRow}
-use Rattle.grid.specs.Grids.{ask, has_first_rows}
+use Rattle.grid.specs.Grids.{has_first_rows}
 use Rattle.grid.proofs.Cells.{row_fits}
-use Rattle.history.specs.declared.messages.Post.{Post}
 use Rattle.history.specs.declared.messages.Post.TheVariants.{Unsent}
 use Rattle.history.specs.declared.refusals.Refusal.{Refusal}
-use Rattle.history.specs.Rows.{Cell, Payload, nothing}
+use Rattle.history.specs.Rows.{Cell, Payload}
 use Rattle.history.specs.Board.{new_state}
-use Rattle.causality.specs.Boards.{Holds, SameFrom, Makes, has_room, make_refusal}
-use Rattle.causality.specs.Calls.{bare, size_refusal}
-use Rattle.causality.proofs.Calling.{Room, nothing_held}
-use Rattle.causality.proofs.Showing.{same_all}
+use Rattle.causality.specs.Boards.{Memory, Holds, SameFrom, Makes, make_refusal}
+use Rattle.causality.specs.Calls.{has_room, size_refusal}
+use Rattle.causality.specs.Loads.{Load, carrying}
+use Rattle.causality.specs.Calls.{Room}
 
 -- no call is both taken and refused
 pub not_both : {o : Option Refusal} {e : Refusal} → o ≡ None → o ≡ Some e → ⊥
@@ -36,13 +33,12 @@ filled_front count x other old new h e = record {
 }
 
 -- all rows of a board, filled
-pub filled_rows : {X : Type 0} {n k : ℕ} {g : Grid X} → Room n k g → (x other : X) (new : List X) (result : Result (Unit {0}) GridError)
-    → result ≡ ask (has_first_rows g (n + k)) NoSuchRow (Ok tt) → new ≡ (if is_ok result then replicate ((n + k) * g.width) x ++ drop ((n + k) * g.width) g.cells.now else g.cells.now)
+pub filled_rows : {X : Type 0} {n k : ℕ} {g : Grid X} → Room n k g → (x other : X) (new : List X)
+    → new ≡ (if has_first_rows g (n + k) then replicate ((n + k) * g.width) x ++ drop ((n + k) * g.width) g.cells.now else g.cells.now)
     → Filled ((n + k) * n) x other g.cells.now new
-filled_rows {n = n} {k = k} {g = g} r x other new result answer is =
+filled_rows {n = n} {k = k} {g = g} r x other new is =
     let there : has_first_rows g (n + k) ≡ true = (let w = r.width in let c = r.cells in grind (arith, nat_tests)) in
-    let ok : result ≡ Ok tt = answer ∙ rw there refl in
-    filled_front ((n + k) * n) x other g.cells.now new r.cells (is ∙ rw ok (ap (λ (w : ℕ). replicate ((n + k) * w) x ++ drop ((n + k) * w) g.cells.now) r.width))
+    filled_front ((n + k) * n) x other g.cells.now new r.cells (is ∙ rw there (ap (λ (w : ℕ). replicate ((n + k) * w) x ++ drop ((n + k) * w) g.cells.now) r.width))
 
 module _ {V X : Type 0} (M : Payload V) (part : Cell V → X) (other : X) (n k : ℕ) {old new : List X} where
   -- they hold new rows
@@ -56,22 +52,18 @@ pub filled_beyond : {X : Type 0} {count : ℕ} {x other : X} {old new : List X} 
 filled_beyond f = record { same_length = f.same_length; rest = f.outside }
 
 -- A making that is taken, of grids and message states that were filled.
-module _ (n k : ℕ) (clocks : Grid ℕ) (flags : Grid Bool) (ps : List Post) (taken : make_refusal n k (has_room n k clocks flags ps) ≡ None) (cs : List ℕ) (fs : List Bool) (qs : List Post)
-    (wc : Filled ((n + k) * n) 0 0 clocks.cells.now cs) (wf : Filled ((n + k) * n) false false flags.cells.now fs) (wp : Filled k Unsent Unsent ps qs) where
-  pub made : Makes nothing n k (make_refusal n k (has_room n k clocks flags ps)) (bare clocks flags ps) (record { clocks = cs; flags = fs; values = []; posts = qs })
+module _ {V : Type 0} (load : Load V) (n k : ℕ) (old : Memory V) (new : Memory V) (taken : make_refusal n k (has_room n k old) ≡ None)
+    (wc : Filled ((n + k) * n) 0 0 old.clocks.cells.now new.clocks.cells.now) (wf : Filled ((n + k) * n) false false old.flags.cells.now new.flags.cells.now)
+    (wv : Filled ((n + k) * n) load.start load.start old.values.cells.now new.values.cells.now) (wp : Filled k Unsent Unsent old.posts new.posts) where
+  pub made : Makes (carrying load n) n k (make_refusal n k (has_room n k old)) old new
   made = record {
     state = λ x. record {
-      clocks = holds_new nothing (λ c. c.clock) 0 n k wc;
-      flags = holds_new nothing (λ c. c.flag) false n k wf;
-      values = nothing_held n k _;
+      clocks = holds_new (carrying load n) (λ c. c.clock) 0 n k wc;
+      flags = holds_new (carrying load n) (λ c. c.flag) false n k wf;
+      values = holds_new (carrying load n) (λ c. c.value) load.start n k wv;
       posts = wp.here;
     };
-    beyond = record {
-      clocks = filled_beyond wc;
-      flags = filled_beyond wf;
-      values = same_all tt ((n + k) * n) [];
-      posts = filled_beyond wp;
-    };
+    beyond = record { clocks = filled_beyond wc; flags = filled_beyond wf; values = filled_beyond wv; posts = filled_beyond wp };
     refused = λ e x. absurd (not_both taken x);
   }
 

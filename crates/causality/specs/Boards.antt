@@ -12,11 +12,11 @@ use Rattle.history.specs.Limits.{most_units, most_messages}
 use Rattle.history.specs.Runs.{Size, Call}
 use Rattle.history.specs.Board.{State, Answer, new_state, next, outcome}
 
--- What the caller brings to each call on a board: three grids, of clocks, flags and values, and the states of the messages.
+-- What the caller lends to each call on a board: three grids, of clocks, flags and values, and the states of the messages.
 pub record Memory (V : Type 0) : Type 0 where
-  pub clocks : List ℕ
-  pub flags : List Bool
-  pub values : List V
+  pub clocks : Grid ℕ
+  pub flags : Grid Bool
+  pub values : Grid V
   pub posts : List Post
 
 -- One grid of a board of n units and k messages holds one part of each cell: cell j of unit u's row at u * n + j, and of message m's at
@@ -27,9 +27,9 @@ pub record Holds {V X : Type 0} (part : Cell V → X) (other : X) (n k : ℕ) (x
 
 -- The memory shows the state: each of the n + k rows, and what became of each of the k messages. Of memory beyond them it says nothing.
 pub record Shows {V : Type 0} (start : V) (n k : ℕ) (memory : Memory V) (s : State V) : Type 0 where
-  pub clocks : Holds (λ (c : Cell V). c.clock) 0 n k memory.clocks s
-  pub flags : Holds (λ (c : Cell V). c.flag) false n k memory.flags s
-  pub values : Holds (λ (c : Cell V). c.value) start n k memory.values s
+  pub clocks : Holds (λ (c : Cell V). c.clock) 0 n k memory.clocks.cells.now s
+  pub flags : Holds (λ (c : Cell V). c.flag) false n k memory.flags.cells.now s
+  pub values : Holds (λ (c : Cell V). c.value) start n k memory.values.cells.now s
   pub posts : (m : ℕ) → m < k → slice_index_or memory.posts m Unsent ≡ s.posts m
 
 -- Every memory shows a state: that whose rows and messages are read off it. So what is said of each state that a memory shows is never idle.
@@ -43,9 +43,9 @@ pub record SameFrom {X : Type 0} (other : X) (place : ℕ) (old new : List X) : 
 
 -- Every cell beyond the board's n + k rows is as it was, and so is every message state beyond the k places.
 pub record SameBeyond {V : Type 0} (start : V) (n k : ℕ) (old new : Memory V) : Type 0 where
-  pub clocks : SameFrom 0 ((n + k) * n) old.clocks new.clocks
-  pub flags : SameFrom false ((n + k) * n) old.flags new.flags
-  pub values : SameFrom start ((n + k) * n) old.values new.values
+  pub clocks : SameFrom 0 ((n + k) * n) old.clocks.cells.now new.clocks.cells.now
+  pub flags : SameFrom false ((n + k) * n) old.flags.cells.now new.flags.cells.now
+  pub values : SameFrom start ((n + k) * n) old.values.cells.now new.values.cells.now
   pub posts : SameFrom Unsent k old.posts new.posts
 
 -- What a send, a receipt or a mark owes, whichever state its memory shows: the answer or the refusal of the rules, and memory that shows the
@@ -65,10 +65,6 @@ pub record Makes {V : Type 0} (M : Payload V) (n k : ℕ) (refusal : Option Refu
 -- whether a grid is as wide as a board of n units, and has all of the n + k rows
 abbrev pub fits_board : {X : Type 0} → ℕ → ℕ → Grid X → Bool
 fits_board n k grid = grid.width == n && nat_le ((n + k) * n) (length grid.cells.now)
-
--- Whether the memory is long enough for a board of n units and k messages.
-abbrev pub has_room : ℕ → ℕ → Grid ℕ → Grid Bool → List Post → Bool
-has_room n k clocks flags posts = fits_board n k clocks && (fits_board n k flags && nat_le k (length posts))
 
 -- The questions that a making asks, in their order; the first no gives the refusal.
 abbrev pub make_refusal : ℕ → ℕ → Bool → Option Refusal

@@ -1,47 +1,70 @@
 -- What the contracts of the calls speak of: the questions of `refusal` in `history/specs/Board`, read off memory, and what is answered, as the
 -- rules speak of it.
-use Rattle.std.specs.Prelude.{ℕ, ◌+◌, ◌*◌, Bool, true, false, List, [], length, min, None, Ok, Err, Option, Result, nat_lt, slice_index, slice_index_or}
-use Rattle.std.specs.Result.{result_err}
+use Rattle.std.specs.Prelude.{◌≡◌, ◌<◌, ◌≤◌, ℕ, ◌+◌, ◌*◌, Bool, true, false, ◌&&◌, List, length, min, Ok, Err, Option, Result, nat_le, slice_index_or}
 use Rattle.bitset.specs.Sets.{those}
 use Rattle.grid.specs.declared.Grid.{Grid}
+use Rattle.grid.specs.Grids.{SameLoan}
 use Rattle.history.specs.declared.messages.Handling.{Handling}
+use Rattle.history.specs.declared.messages.Handling.TheVariants.{Sending, Receiving}
 use Rattle.history.specs.declared.messages.Post.{Post}
-use Rattle.history.specs.declared.messages.Post.TheVariants.{Unsent}
 use Rattle.history.specs.declared.refusals.Refusal.{Refusal}
-use Rattle.history.specs.declared.refusals.Refusal.TheVariants.{MemoryTooShort, NoSuchUnit, NoSuchMessage, ClockFull}
-use Rattle.history.specs.Messages.{moved}
-use Rattle.history.specs.Refusals.{ask}
-use Rattle.history.specs.Limits.{most_marks}
-use Rattle.history.specs.Runs.{Size}
+use Rattle.history.specs.Events.{Event, send, receive}
+use Rattle.history.specs.Runs.{Call}
 use Rattle.history.specs.Board.{Answer, own_clock, marked}
 use Rattle.causality.specs.declared.boards.Marked as code
-use Rattle.causality.specs.Boards.{Memory, make_refusal}
+use Rattle.causality.specs.Boards.{Memory, Follows, Makes, fits_board, make_refusal}
+use Rattle.causality.specs.Loads.{Load, carrying, sized}
 
--- the memory of a board without measures, which has no values
-abbrev pub bare : Grid ℕ → Grid Bool → List Post → Memory (Unit {0})
-bare clocks flags posts = record { clocks = clocks.cells.now; flags = flags.cells.now; values = []; posts = posts }
+-- the memory that is lent to a call
+abbrev pub lent : {V : Type 0} → Grid ℕ → Grid Bool → Grid V → List Post → Memory V
+lent clocks flags values posts = record { clocks = clocks; flags = flags; values = values; posts = posts }
 
--- A board without measures knows no labels: which of them fit is left open.
-abbrev pub bare_size : ℕ → ℕ → (ℕ → ℕ → Bool) → Size
-bare_size n k fits = record { units = n; messages = k; fits = fits; limit = most_marks }
+-- whether it is long enough for a board of n units and k messages
+abbrev pub has_room : {V : Type 0} → ℕ → ℕ → Memory V → Bool
+has_room n k a = fits_board n k a.clocks && (fits_board n k a.flags && (fits_board n k a.values && nat_le k (length a.posts)))
+
+-- Each grid is as wide as before, and lent by the same lender.
+pub record SameLoans {V : Type 0} (old new : Memory V) : Type 0 where
+  pub clocks : SameLoan old.clocks new.clocks
+  pub flags : SameLoan old.flags new.flags
+  pub values : SameLoan old.values new.values
+
+-- What a call on a board of n units and k messages owes: it follows the rules, and lends back what it was lent.
+pub record Obeys {V : Type 0} (load : Load V) (n k : ℕ) (c : Call) (old new : Memory V) (r : Result (Answer V) Refusal) : Type 0 where
+  pub follows : Follows (carrying load n) (sized load n k) c (has_room n k old) old new r
+  pub loans : SameLoans old new
+
+-- What the making of such a board owes.
+pub record Begins {V : Type 0} (load : Load V) (n k : ℕ) (old new : Memory V) : Type 0 where
+  pub makes : Makes (carrying load n) n k (make_refusal n k (has_room n k old)) old new
+  pub loans : SameLoans old new
 
 -- the questions about the size of a board
 abbrev pub size_refusal : ℕ → ℕ → Option Refusal
 size_refusal n k = make_refusal n k true
 
--- the questions that a call of a unit begins with
-abbrev pub unit_refusal : ℕ → Bool → ℕ → Option Refusal
-unit_refusal n room u = ask room MemoryTooShort (ask (nat_lt u n) NoSuchUnit None)
+-- a grid is as wide as a board of n units and k messages, and has all its rows
+pub record Room {X : Type 0} (n k : ℕ) (g : Grid X) : Type 0 where
+  pub width : g.width ≡ n
+  pub cells : (n + k) * n ≤ length g.cells.now
 
--- the questions of a send or of a receipt, by the states of the messages
-abbrev pub handling_refusal : ℕ → ℕ → Bool → List Post → ℕ → ℕ → Handling → Option Refusal
-handling_refusal n k room posts u m handling =
-    ask room MemoryTooShort (ask (nat_lt u n) NoSuchUnit (ask (nat_lt m k) NoSuchMessage (result_err (moved (slice_index_or posts m Unsent) handling))))
+-- What a board of n units and k messages knows once its memory is long enough and a unit is there.
+pub record Ready {V : Type 0} (n k : ℕ) (a : Memory V) (u : ℕ) : Type 0 where
+  pub room : has_room n k a ≡ true
+  pub clocks : Room n k a.clocks
+  pub flags : Room n k a.flags
+  pub values : Room n k a.values
+  pub posts : k ≤ length a.posts
+  pub unit : u < n
 
--- the questions of a mark that a board without measures asks, by the clocks
-abbrev pub mark_refusal : ℕ → Bool → List ℕ → ℕ → Option Refusal
-mark_refusal n room clocks u =
-    ask room MemoryTooShort (ask (nat_lt u n) NoSuchUnit (ask (nat_lt (slice_index clocks (u * n + u)) most_marks) ClockFull None))
+-- A call that is refused for e owes its memory as it was.
+abbrev pub TurnedAway : {V : Type 0} → Load V → ℕ → ℕ → Memory V → Call → Refusal → Type 0
+TurnedAway load n k a c e = Obeys load n k c a a (Err e)
+
+-- what is done to a message
+abbrev pub handle : Handling → ℕ → Event
+handle Sending m = send m
+handle Receiving m = receive m
 
 -- the units whose flag in a row is yes, as a number
 abbrev pub flags_in : List Bool → ℕ

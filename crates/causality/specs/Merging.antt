@@ -1,10 +1,6 @@
 -- Cells of rows in memories of clocks, flags and values, and one row merged into another.
-use Rattle.std.specs.Prelude.{ℕ, ◌+◌, ◌*◌, Bool, false, ◌&&◌, List, [], ◌==◌, slice_index, slice_index_or, Result}
-use Rattle.grid.specs.declared.Grid.{Grid}
+use Rattle.std.specs.Prelude.{ℕ, ◌+◌, ◌*◌, Bool, false, List, slice_index, slice_index_or}
 use Rattle.grid.specs.declared.RowPair.{RowPair}
-use Rattle.grid.specs.declared.errors.GridError.{GridError}
-use Rattle.grid.specs.declared.errors.GridError.TheVariants.{NoSuchRow, UnequalWidths}
-use Rattle.grid.specs.Grids.{ask, has_rows, with_cells}
 use Rattle.history.specs.Rows.{Cell, merge_row}
 use Rattle.causality.specs.declared.merging.Cell as code
 
@@ -26,20 +22,3 @@ merged start clocks flags values rows =
     merge_row start
     (cells start clocks flags values rows.width rows.to)
     (cells start clocks flags values rows.width rows.from)
-
--- the same without values
-abbrev pub merged_bare : List ℕ → List Bool → RowPair → ℕ → Cell (Unit {0})
-merged_bare clocks flags rows = merged {V = Unit {0}} tt clocks flags [] rows
-
--- all clocks, once row `from` is merged into row `to`
-abbrev pub merged_clocks : List ℕ → List Bool → RowPair → List ℕ
-merged_clocks clocks flags rows = with_cells clocks rows (λ j. (merged_bare clocks flags rows j).clock) rows.width
-
--- all flags, once row `from` is merged into row `to`
-abbrev pub merged_flags : List ℕ → List Bool → RowPair → List Bool
-merged_flags clocks flags rows = with_cells flags rows (λ j. (merged_bare clocks flags rows j).flag) rows.width
-
--- What is asked before a merge: whether the grids are equally wide, and whether each has both rows.
-abbrev pub ask_rows : {X : Type 0} → Grid ℕ → Grid Bool → ℕ → ℕ → Result X GridError → Result X GridError
-ask_rows clocks flags from to next =
-    ask (clocks.width == flags.width) UnequalWidths (ask (has_rows clocks from to && has_rows flags from to) NoSuchRow next)

@@ -1,38 +1,39 @@
-// A board follows the calls of a run: what each unit knows of the others' marks. This one has no measure.
-// Each call asks its questions first, and the first no refuses it; after them all rows that it names are there, so that the grids refuse
-// nothing, and what they answer is dropped.
-ghost use Rattle.std.specs.Prelude.{◌≡◌, ℕ, ◌+◌, ◌*◌, ◌<◌, ◌≤◌, Bool, true, ◌&&◌, ◌++◌, drop, length, replicate, Some, None, IfOk, MatchResult, count_by, if◌then◌else◌, slice_index, slice_index_or};
-ghost use Rattle.bitset.specs.Sets.{those};
-ghost use Rattle.grid.specs.Grids.{has_row, SameLoan};
-ghost use Rattle.grid.specs.Rows.{row as row_of};
+// A board follows the calls of a run: what each unit knows of the others' marks, and what is carried along their flows.
+// Each call asks its questions first, and the first no refuses it; what it does then cannot fail.
+ghost use Rattle.std.specs.Prelude.{◌≡◌, ℕ, ◌+◌, ◌*◌, ◌<◌, ◌≤◌, ◌++◌, drop, length, replicate, None, true, false, MatchResult, count_by, slice_index, slice_index_or};
+ghost use Rattle.grid.specs.Rows.{row as row_of, with_row};
 ghost use Rattle.history.specs.declared.messages.Post.TheVariants.{Unsent};
 ghost use Rattle.history.specs.Events.{send, receive, mark};
 ghost use Rattle.history.specs.Limits.{most_marks, most_messages, most_units};
 ghost use Rattle.history.specs.Messages.{moved, travels};
-ghost use Rattle.history.specs.Rows.{nothing};
-ghost use Rattle.causality.specs.Boards.{EachShows, Follows, Makes, fits_board, has_room, make_refusal, state_answer, left_answer};
-ghost use Rattle.causality.specs.Calls.{size_refusal, flags_in, bare, bare_size, unit_refusal, handling_refusal, mark_refusal, clock_told, mark_told};
-ghost use Rattle.history.specs.Runs.{call};
+ghost use Rattle.history.specs.Rows.{Cell};
+ghost use Rattle.history.specs.Runs.{Call, call};
+ghost use Rattle.causality.specs.Boards.{EachShows, fits_board, make_refusal, state_answer, left_answer};
+ghost use Rattle.causality.specs.Calls.{Obeys, Begins, lent, has_room, size_refusal, flags_in, Ready, TurnedAway, handle, clock_told, mark_told};
+ghost use Rattle.causality.specs.Loads.{Reads};
+ghost use Rattle.bitset.specs.Sets.{those};
 
 use super::merging::merge_rows;
+use super::payloads::Payload;
 use super::{Clock, MAX_MESSAGES, MAX_UNITS};
-use bitset::positions;
-use grid::{Grid, at_or, fill};
+use grid::{Grid, RowPair, at_or, fill, reset_row};
 use history::{Handling, Post, Refusal};
 
-// A board of `units` units and `messages` messages. Its rows and the states of its messages lie in memory that the caller brings to each
-// call: a grid of clocks and one of flags, each as wide as the board has units, with row u for unit u and row units + m for message m.
-#[derive(Clone, Copy, PartialEq, Eq, Debug)]
-pub struct Board {
+// A board of `units` units and `messages` messages, and what its cells carry. Its rows and the states of its messages lie in memory that the
+// caller brings to each call: a grid of clocks, one of flags and one of values, each as wide as the board has units, with row u for unit u and
+// row units + m for message m.
+#[derive(Drop)]
+pub struct Board<P: Payload> {
     pub units: usize,
     pub messages: usize,
+    pub payload: P,
     ghost some_units: { 0 < units },
     ghost few_units: { units ≤ most_units },
     ghost few_messages: { messages ≤ most_messages },
 }
 
 // What an accepted mark is told: its unit's own clock, a number with bit v for each unit v that has an immediate predecessor of it, and
-// its value: (), where nothing is measured.
+// its value.
 #[derive(Clone, Copy, PartialEq, Eq, Debug)]
 pub struct Marked<V> {
     pub clock: Clock,
@@ -40,10 +41,14 @@ pub struct Marked<V> {
     pub value: V,
 }
 
-impl Board {
+impl<P: Payload> Board<P> {
     // A board of that size, whose memory is still to be brought: is it a size that a board can have?
-    pub fn sized(units: usize, messages: usize) -> Result<Board, Refusal>
-        ensures { MatchResult result (λ b. (size_refusal units messages ≡ None) × (b.units ≡ units) × (b.messages ≡ messages)) (λ e. size_refusal units messages ≡ Some e) }
+    pub fn sized(payload: P, units: usize, messages: usize) -> Result<Board<P>, Refusal>
+    where
+        P: Drop,
+        ensures { MatchResult result
+            (λ b. (size_refusal units messages ≡ None) × (b.units ≡ units) × (b.messages ≡ messages) × (b.payload ≡ payload))
+            (λ e. size_refusal units messages ≡ Some e) }
     {
         if units < 1 || units > MAX_UNITS {
             return Err(Refusal::UnitCount);
@@ -51,37 +56,42 @@ impl Board {
         if messages > MAX_MESSAGES {
             return Err(Refusal::MessageCount);
         }
-        Ok(Board { units, messages })
+        Ok(Board {
+            units,
+            messages,
+            payload,
+        })
     }
 
     // Makes a board: its rows become new, and no message is sent. Asks for the size, and then for the memory.
     pub fn make(
+        payload: P,
         units: usize,
         messages: usize,
         clocks: &mut Grid<'_, Clock>,
         flags: &mut Grid<'_, bool>,
+        values: &mut Grid<'_, P::Value>,
         posts: &mut [Post],
-    ) -> Result<Board, Refusal>
-        ensures answer { MatchResult result (λ b. (make_refusal units messages (has_room units messages clocks.old flags.old posts.old) ≡ None) × (b.units ≡ units) × (b.messages ≡ messages)) (λ e. make_refusal units messages (has_room units messages clocks.old flags.old posts.old) ≡ Some e) }
-        ensures memory { Makes nothing units messages (make_refusal units messages (has_room units messages clocks.old flags.old posts.old)) (bare clocks.old flags.old posts.old) (bare clocks.new flags.new posts.new) }
-        ensures clocks_loan { SameLoan clocks.old clocks.new }
-        ensures flags_loan { SameLoan flags.old flags.new }
+    ) -> Result<Board<P>, Refusal>
+    where
+        P: Drop,
+        ensures board { let refusal = make_refusal units messages (has_room units messages (lent clocks.old flags.old values.old posts.old)) in
+            MatchResult result
+            (λ b. (refusal ≡ None) × (b.units ≡ units) × (b.messages ≡ messages) × (b.payload ≡ payload))
+            (λ e. refusal ≡ Some e) }
+        ensures begins { Begins (P.load payload) units messages
+            (lent clocks.old flags.old values.old posts.old) (lent clocks.new flags.new values.new posts.new) }
     {
-        let board = Board::sized(units, messages)?;
-        if !board.has_memory(clocks, flags, posts) {
+        let board = Board::sized(payload, units, messages)?;
+        if !board.has_memory(clocks, flags, values, posts) {
             return Err(Refusal::MemoryTooShort);
         }
-        clocks.fill_rows(units + messages, 0).ok();
-        flags.fill_rows(units + messages, false).ok();
+        let rows = units + messages;
+        clocks.fill_rows(rows, 0);
+        flags.fill_rows(rows, false);
+        values.fill_rows(rows, board.payload.start());
         begin_posts(posts, messages);
         Ok(board)
-    }
-
-    // Whether a grid is as wide as the board has units, and long enough for all rows.
-    pub fn fits<T: Copy>(&self, grid: &Grid<'_, T>) -> bool
-        ensures { result ≡ fits_board self.now.units self.now.messages grid.now }
-    {
-        grid.width == self.units && (self.units + self.messages) * self.units <= grid.cells.len()
     }
 
     // Whether the memory is long enough: the first question of each call. Whatever it holds, it shows a state (`shows`), so that the promises
@@ -91,25 +101,37 @@ impl Board {
         &self,
         clocks: &Grid<'_, Clock>,
         flags: &Grid<'_, bool>,
+        values: &Grid<'_, P::Value>,
         posts: &[Post],
     ) -> bool
-        ensures room { result ≡ has_room self.now.units self.now.messages clocks.now flags.now posts.now }
-        ensures shows { EachShows {V = Unit {0}} tt self.now.units self.now.messages }
+        ensures room { result ≡ has_room self.now.units self.now.messages (lent clocks.now flags.now values.now posts.now) }
+        ensures shows { EachShows (P.load self.now.payload).start self.now.units self.now.messages }
     {
-        self.fits(clocks) && self.fits(flags) && self.messages <= posts.len()
+        self.fits(clocks) && self.fits(flags) && self.fits(values) && self.messages <= posts.len()
     }
 
-    // The questions that a call of a unit begins with: is the memory long enough, and is the unit there?
-    pub fn ask_unit(
+    // Whether a grid is as wide as the board has units, and long enough for all rows.
+    fn fits<T: Copy>(&self, grid: &Grid<'_, T>) -> bool
+        ensures { result ≡ fits_board self.now.units self.now.messages grid.now }
+    {
+        grid.width == self.units && (self.units + self.messages) * self.units <= grid.cells.len()
+    }
+
+    // The questions that a call of a unit begins with: is the memory long enough, and is the unit there? It only reads.
+    fn ask_unit(
         &self,
         clocks: &Grid<'_, Clock>,
         flags: &Grid<'_, bool>,
+        values: &Grid<'_, P::Value>,
         posts: &[Post],
         unit: usize,
     ) -> Result<(), Refusal>
-        ensures { MatchResult result (λ _. unit_refusal self.now.units (has_room self.now.units self.now.messages clocks.now flags.now posts.now) unit ≡ None) (λ e. unit_refusal self.now.units (has_room self.now.units self.now.messages clocks.now flags.now posts.now) unit ≡ Some e) }
+        ensures { let memory = lent clocks.now flags.now values.now posts.now in
+            MatchResult result
+            (λ _. Ready self.now.units self.now.messages memory unit)
+            (λ e. (c : Call) → c.unit ≡ unit → TurnedAway (P.load self.now.payload) self.now.units self.now.messages memory c e) }
     {
-        if !self.has_memory(clocks, flags, posts) {
+        if !self.has_memory(clocks, flags, values, posts) {
             return Err(Refusal::MemoryTooShort);
         }
         if unit >= self.units {
@@ -118,50 +140,63 @@ impl Board {
         Ok(())
     }
 
-    // What a send or a receipt would make of the message, or why it would be refused. It only reads.
-    pub fn ask_message(
+    // What a send or a receipt makes of the message, or why it is refused. It only reads.
+    fn ask_message(
         &self,
         clocks: &Grid<'_, Clock>,
         flags: &Grid<'_, bool>,
+        values: &Grid<'_, P::Value>,
         posts: &[Post],
         unit: usize,
         message: usize,
         handling: Handling,
     ) -> Result<Post, Refusal>
-        ensures { MatchResult result (λ post. (handling_refusal self.now.units self.now.messages (has_room self.now.units self.now.messages clocks.now flags.now posts.now) posts.now unit message handling ≡ None) × (moved (slice_index_or posts.now message Unsent) handling ≡ Ok post)) (λ e. handling_refusal self.now.units self.now.messages (has_room self.now.units self.now.messages clocks.now flags.now posts.now) posts.now unit message handling ≡ Some e) }
+        ensures { let memory = lent clocks.now flags.now values.now posts.now in
+            MatchResult result
+            (λ post. Ready self.now.units self.now.messages memory unit × (message < self.now.messages)
+            × (moved (slice_index_or posts.now message Unsent) handling ≡ Ok post))
+            (λ e. TurnedAway (P.load self.now.payload) self.now.units self.now.messages memory (call unit (handle handling message)) e) }
     {
-        self.ask_unit(clocks, flags, posts, unit)?;
+        self.ask_unit(clocks, flags, values, posts, unit)?;
         if message >= self.messages {
             return Err(Refusal::NoSuchMessage);
         }
         at_or(posts, message, Post::Unsent).handled(handling)
     }
 
-    // A unit's own clock.
-    fn own_clock(&self, clocks: &Grid<'_, Clock>, unit: usize) -> Clock
-        requires { unit < self.now.units }
-        ensures { result ≡ slice_index clocks.now.cells.now (unit * self.now.units + unit) }
-    {
-        at_or(clocks.cells, unit * self.units + unit, 0)
-    }
-
-    // A unit's own clock, where it may make one more mark; or why it may not.
+    // The own clock of a unit that makes a mark with a label, or why the mark is refused. It only reads.
     fn ask_mark(
         &self,
         clocks: &Grid<'_, Clock>,
         flags: &Grid<'_, bool>,
+        values: &Grid<'_, P::Value>,
         posts: &[Post],
         unit: usize,
+        label: u8,
     ) -> Result<Clock, Refusal>
-        ensures answer { MatchResult result (λ own. (mark_refusal self.now.units (has_room self.now.units self.now.messages clocks.now flags.now posts.now) clocks.now.cells.now unit ≡ None) × (own ≡ slice_index clocks.now.cells.now (unit * self.now.units + unit))) (λ e. mark_refusal self.now.units (has_room self.now.units self.now.messages clocks.now flags.now posts.now) clocks.now.cells.now unit ≡ Some e) }
-        ensures below { IfOk result (λ own. own < most_marks) }
+        ensures { let memory = lent clocks.now flags.now values.now posts.now in
+            MatchResult result
+            (λ own. Ready self.now.units self.now.messages memory unit × ((P.load self.now.payload).fits unit label ≡ true)
+            × (own ≡ slice_index clocks.now.cells.now (unit * self.now.units + unit)) × (own < most_marks))
+            (λ e. TurnedAway (P.load self.now.payload) self.now.units self.now.messages memory (call unit (mark label)) e) }
     {
-        self.ask_unit(clocks, flags, posts, unit)?;
-        let own = self.own_clock(clocks, unit);
+        self.ask_unit(clocks, flags, values, posts, unit)?;
+        if !self.payload.fits(unit, label) {
+            return Err(Refusal::NoSuchLabel);
+        }
+        let own = clocks.cells[unit * self.units + unit];
         if own == Clock::MAX {
             return Err(Refusal::ClockFull);
         }
         Ok(own)
+    }
+
+    // A unit's own clock.
+    fn own_clock(&self, clocks: &Grid<'_, Clock>, unit: usize) -> Clock
+        requires unit { unit < self.now.units }
+        ensures { result ≡ slice_index clocks.now.cells.now (unit * self.now.units + unit) }
+    {
+        at_or(clocks.cells, unit * self.units + unit, 0)
     }
 
     // Puts a message on its way: it takes along what its sender knows. Answers the sender's own clock.
@@ -169,18 +204,28 @@ impl Board {
         &self,
         clocks: &mut Grid<'_, Clock>,
         flags: &mut Grid<'_, bool>,
+        values: &mut Grid<'_, P::Value>,
         posts: &mut [Post],
         unit: usize,
         message: usize,
     ) -> Result<Clock, Refusal>
-        ensures follows { (fits : ℕ → ℕ → Bool) → Follows nothing (bare_size self.now.units self.now.messages fits) (call unit (send message)) (has_room self.now.units self.now.messages clocks.old flags.old posts.old) (bare clocks.old flags.old posts.old) (bare clocks.new flags.new posts.new) (clock_told result) }
-        ensures clocks_loan { SameLoan clocks.old clocks.new }
-        ensures flags_loan { SameLoan flags.old flags.new }
+        ensures { Obeys (P.load self.now.payload) self.now.units self.now.messages
+            (call unit (send message)) (lent clocks.old flags.old values.old posts.old)
+            (lent clocks.new flags.new values.new posts.new) (clock_told result) }
     {
-        let post = self.ask_message(clocks, flags, posts, unit, message, Handling::Sending)?;
+        let post = self.ask_message(
+            clocks,
+            flags,
+            values,
+            posts,
+            unit,
+            message,
+            Handling::Sending,
+        )?;
         let row = self.units + message;
-        clocks.copy_row(unit, row).ok();
-        flags.copy_row(unit, row).ok();
+        clocks.copy_row(unit, row);
+        flags.copy_row(unit, row);
+        values.copy_row(unit, row);
         posts[message] = post;
         Ok(self.own_clock(clocks, unit))
     }
@@ -190,44 +235,90 @@ impl Board {
         &self,
         clocks: &mut Grid<'_, Clock>,
         flags: &mut Grid<'_, bool>,
+        values: &mut Grid<'_, P::Value>,
         posts: &mut [Post],
         unit: usize,
         message: usize,
     ) -> Result<Clock, Refusal>
-        ensures follows { (fits : ℕ → ℕ → Bool) → Follows nothing (bare_size self.now.units self.now.messages fits) (call unit (receive message)) (has_room self.now.units self.now.messages clocks.old flags.old posts.old) (bare clocks.old flags.old posts.old) (bare clocks.new flags.new posts.new) (clock_told result) }
-        ensures clocks_loan { SameLoan clocks.old clocks.new }
-        ensures flags_loan { SameLoan flags.old flags.new }
+        ensures { Obeys (P.load self.now.payload) self.now.units self.now.messages
+            (call unit (receive message)) (lent clocks.old flags.old values.old posts.old)
+            (lent clocks.new flags.new values.new posts.new) (clock_told result) }
     {
-        let post = self.ask_message(clocks, flags, posts, unit, message, Handling::Receiving)?;
-        merge_rows(clocks, flags, self.units + message, unit).ok();
+        let post = self.ask_message(
+            clocks,
+            flags,
+            values,
+            posts,
+            unit,
+            message,
+            Handling::Receiving,
+        )?;
+        let rows = RowPair {
+            width: self.units,
+            from: self.units + message,
+            to: unit,
+        };
+        merge_rows(
+            self.payload.start(),
+            clocks.cells,
+            flags.cells,
+            values.cells,
+            rows,
+        );
         posts[message] = post;
         Ok(self.own_clock(clocks, unit))
     }
 
-    // A unit makes a mark. Answers its own clock, and the units that have an immediate predecessor of the mark. Labels are a measure's
-    // matter, so none is asked for.
+    // A unit makes a mark with a label. Answers its own clock, the units that have an immediate predecessor of the mark, and its value.
     pub fn mark(
         &self,
         clocks: &mut Grid<'_, Clock>,
         flags: &mut Grid<'_, bool>,
+        values: &mut Grid<'_, P::Value>,
         posts: &[Post],
         unit: usize,
-    ) -> Result<Marked<()>, Refusal>
-        ensures follows { (fits : ℕ → ℕ → Bool) (label : ℕ) → fits unit label ≡ true → Follows nothing (bare_size self.now.units self.now.messages fits) (call unit (mark label)) (has_room self.now.units self.now.messages clocks.old flags.old posts.now) (bare clocks.old flags.old posts.now) (bare clocks.new flags.new posts.now) (mark_told result) }
-        ensures clocks_loan { SameLoan clocks.old clocks.new }
-        ensures flags_loan { SameLoan flags.old flags.new }
+        label: u8,
+    ) -> Result<Marked<P::Value>, Refusal>
+        ensures { Obeys (P.load self.now.payload) self.now.units self.now.messages
+            (call unit (mark label)) (lent clocks.old flags.old values.old posts.now)
+            (lent clocks.new flags.new values.new posts.now) (mark_told result) }
     {
-        let own = self.ask_mark(clocks, flags, posts, unit)?;
+        let own = self.ask_mark(clocks, flags, values, posts, unit, label)?;
         let clock = own + 1;
-        let predecessors = flagged(flags, unit);
-        clocks.set_cell(unit, unit, clock).ok();
-        flags.fill_row(unit, false).ok();
-        flags.set_cell(unit, unit, true).ok();
+        let predecessors = take_flags(flags.cells, self.units, unit);
+        let value = self.worth_in(values, predecessors, unit, label);
+        reset_row(values.cells, self.units, unit, self.payload.start());
+        let at = unit * self.units + unit;
+        clocks.cells[at] = clock;
+        flags.cells[at] = true;
+        values.cells[at] = value;
         Ok(Marked {
             clock,
             predecessors,
-            value: (),
+            value,
         })
+    }
+
+    // What a mark is worth by the set of its predecessors' units and the values of its unit's row.
+    fn worth_in(
+        &self,
+        values: &Grid<'_, P::Value>,
+        predecessors: u64,
+        unit: usize,
+        label: u8,
+    ) -> P::Value
+        requires width { values.now.width ≡ self.now.units }
+        requires row { unit * self.now.units + self.now.units ≤ length values.now.cells.now }
+        ensures { (n : ℕ) (r : ℕ → Cell P.Value) → Reads (P.load self.now.payload).start n r predecessors (row_of values.now.cells.now self.now.units unit)
+            → result ≡ (P.load self.now.payload).make n r unit label }
+    {
+        let start = unit * self.units;
+        self.payload.worth(
+            predecessors,
+            &values.cells[start..start + self.units],
+            unit,
+            label,
+        )
     }
 
     // What became of a message.
@@ -235,12 +326,14 @@ impl Board {
         &self,
         clocks: &Grid<'_, Clock>,
         flags: &Grid<'_, bool>,
+        values: &Grid<'_, P::Value>,
         posts: &[Post],
         message: usize,
     ) -> Result<Post, Refusal>
-        ensures { result ≡ state_answer self.now.messages (has_room self.now.units self.now.messages clocks.now flags.now posts.now) posts.now message }
+        ensures { let there = has_room self.now.units self.now.messages (lent clocks.now flags.now values.now posts.now) in
+            result ≡ state_answer self.now.messages there posts.now message }
     {
-        if !self.has_memory(clocks, flags, posts) {
+        if !self.has_memory(clocks, flags, values, posts) {
             return Err(Refusal::MemoryTooShort);
         }
         if message >= self.messages {
@@ -255,25 +348,68 @@ impl Board {
         &self,
         clocks: &Grid<'_, Clock>,
         flags: &Grid<'_, bool>,
+        values: &Grid<'_, P::Value>,
         posts: &[Post],
     ) -> Result<usize, Refusal>
-        ensures { result ≡ left_answer self.now.messages (has_room self.now.units self.now.messages clocks.now flags.now posts.now) posts.now }
+        ensures { let there = has_room self.now.units self.now.messages (lent clocks.now flags.now values.now posts.now) in
+            result ≡ left_answer self.now.messages there posts.now }
     {
-        if !self.has_memory(clocks, flags, posts) {
+        if !self.has_memory(clocks, flags, values, posts) {
             return Err(Refusal::MemoryTooShort);
         }
         Ok(travelling(&posts[..self.messages]))
     }
 }
 
-// The units whose flag is yes in a row, as a number with a bit for each; 0 where the row is not there.
-fn flagged(flags: &Grid<'_, bool>, row: usize) -> u64
-    ensures { result ≡ (if has_row flags.now row then flags_in (row_of flags.now.cells.now flags.now.width row) else 0) }
+// Takes the flags of a row that is there, as a number with a bit for each unit whose flag is yes; all become no.
+fn take_flags(flags: &mut [bool], width: usize, row: usize) -> u64
+    requires row { row * width + width ≤ length flags.old }
+    requires few { width ≤ 64 }
+    ensures units { result ≡ flags_in (row_of flags.old width row) }
+    ensures cells { flags.new ≡ with_row flags.old width row (replicate width false) }
 {
-    match flags.row(row) {
-        Ok(cells) => positions(cells),
-        Err(_) => 0,
+    let start = row * width;
+    sweep(&mut flags[start..start + width])
+}
+
+// Takes some flags, from the last to the first, as a number with a bit for each that is yes; all become no. Eight at a time while there are so many.
+fn sweep(flags: &mut [bool]) -> u64
+    requires { length flags.old ≤ 64 }
+    ensures set { result ≡ flags_in flags.old }
+    ensures cells { flags.new ≡ replicate (length flags.old) false }
+{
+    let mut set = 0;
+    let mut q = flags.len();
+    while q >= 8 {
+        q -= 8;
+        set = set << 8 | eight(flags, q);
+        fill(&mut flags[q..q + 8], false);
     }
+    while q > 0 {
+        q -= 1;
+        set = set << 1 | u64::from(flags[q]);
+        flags[q] = false;
+    }
+    set
+}
+
+// The eight flags from a place on, as a number with a bit for each that is yes: each is a byte of a word, and the product has the bits of all
+// in its highest byte.
+fn eight(flags: &[bool], q: usize) -> u64
+    requires { q + 8 ≤ length flags.now }
+    ensures { result ≡ those (λ i. slice_index_or flags.now (q + i) false) 8 }
+{
+    let bytes = [
+        u8::from(flags[q]),
+        u8::from(flags[q + 1]),
+        u8::from(flags[q + 2]),
+        u8::from(flags[q + 3]),
+        u8::from(flags[q + 4]),
+        u8::from(flags[q + 5]),
+        u8::from(flags[q + 6]),
+        u8::from(flags[q + 7]),
+    ];
+    u64::from_le_bytes(bytes).wrapping_mul(0x0102_0408_1020_4080) >> 56
 }
 
 // The first messages become as they are before anything is sent.

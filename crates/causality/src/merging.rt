@@ -1,11 +1,11 @@
 // The merge of a message's row into a unit's row, cell by cell.
-ghost use Rattle.std.specs.Prelude.{◌≡◌, ◌+◌, ◌*◌, ◌<◌, ◌≤◌, length, if◌then◌else◌, IfOk, is_ok, slice_set};
-ghost use Rattle.grid.specs.Grids.{row_pair, LieWithin, SameLoan};
+ghost use Rattle.std.specs.Prelude.{◌≡◌, ◌+◌, ◌*◌, ◌<◌, ◌≤◌, length, slice_set};
+ghost use Rattle.grid.specs.Grids.{LieWithin, with_cells};
 ghost use Rattle.history.specs.Rows.{merged_cell, news};
-ghost use Rattle.causality.specs.Merging.{cell, cell_at, merged_bare, ask_rows, merged_clocks, merged_flags};
+ghost use Rattle.causality.specs.Merging.{cell, cell_at, merged};
 
 use super::Clock;
-use grid::{Grid, GridError, RowPair, at_or, put};
+use grid::{RowPair, at_or, put};
 
 // What a row knows of one unit: how many of its marks, whether the last of these is an immediate predecessor of what comes next, and what
 // is carried along the flows that end there: (), where nothing is measured.
@@ -58,58 +58,48 @@ pub fn merge_cell<V: Copy>(start: V, own: Cell<V>, other: Cell<V>) -> Cell<V>
 }
 
 // Merges cell j of row `from` into cell j of row `to`; the other row's cell is taken out by value first.
-// The column of values is merged before it, by clocks and flags as they were (`measures`).
 #[tactic(auto, using(grid::proofs::Cells::put_at))]
-fn merge_column(clocks: &mut [Clock], flags: &mut [bool], rows: RowPair, j: usize)
+fn merge_column<V: Copy>(
+    start: V,
+    clocks: &mut [Clock],
+    flags: &mut [bool],
+    values: &mut [V],
+    rows: RowPair,
+    j: usize,
+)
     requires column { j < rows.width }
     requires clocks { LieWithin rows (length clocks.old) }
     requires flags { LieWithin rows (length flags.old) }
-    ensures clocks { clocks.new ≡ slice_set clocks.old (rows.to * rows.width + j) (merged_bare clocks.old flags.old rows j).clock }
-    ensures flags { flags.new ≡ slice_set flags.old (rows.to * rows.width + j) (merged_bare clocks.old flags.old rows j).flag }
+    requires values { LieWithin rows (length values.old) }
+    ensures clocks { clocks.new ≡ slice_set clocks.old (rows.to * rows.width + j) (merged start clocks.old flags.old values.old rows j).clock }
+    ensures flags { flags.new ≡ slice_set flags.old (rows.to * rows.width + j) (merged start clocks.old flags.old values.old rows j).flag }
+    ensures values { values.new ≡ slice_set values.old (rows.to * rows.width + j) (merged start clocks.old flags.old values.old rows j).value }
 {
-    let other = Cell::at((), clocks, flags, &[], rows.from * rows.width + j);
-    let own = Cell::at((), clocks, flags, &[], rows.to * rows.width + j);
-    let merged = merge_cell((), own, other);
+    let other = Cell::at(start, clocks, flags, values, rows.from * rows.width + j);
+    let own = Cell::at(start, clocks, flags, values, rows.to * rows.width + j);
+    let merged = merge_cell(start, own, other);
     put(&mut clocks[rows.to * rows.width..], j, merged.clock);
     put(&mut flags[rows.to * rows.width..], j, merged.flag);
+    put(&mut values[rows.to * rows.width..], j, merged.value);
 }
 
-// The rows of a merge: the grids are equally wide, and each has both rows.
-pub fn rows_to_merge(
-    clocks: &Grid<'_, Clock>,
-    flags: &Grid<'_, bool>,
-    from: usize,
-    to: usize,
-) -> Result<RowPair, GridError>
-    ensures answer { result ≡ ask_rows clocks.now flags.now from to (Ok (row_pair clocks.now from to)) }
-    ensures clocks { IfOk result (λ rows. LieWithin rows (length clocks.now.cells.now)) }
-    ensures flags { IfOk result (λ rows. LieWithin rows (length flags.now.cells.now)) }
+// Merges row `from`, a message's, into row `to`, a unit's, the unit's own cell too. A loop over columns, since both rows lie in one lent
+// slice and the other row's cell is taken out by value first.
+pub(crate) fn merge_rows<V: Copy>(
+    start: V,
+    clocks: &mut [Clock],
+    flags: &mut [bool],
+    values: &mut [V],
+    rows: RowPair,
+)
+    requires clocks { LieWithin rows (length clocks.old) }
+    requires flags { LieWithin rows (length flags.old) }
+    requires values { LieWithin rows (length values.old) }
+    ensures clocks { clocks.new ≡ with_cells clocks.old rows (λ j. (merged start clocks.old flags.old values.old rows j).clock) rows.width }
+    ensures flags { flags.new ≡ with_cells flags.old rows (λ j. (merged start clocks.old flags.old values.old rows j).flag) rows.width }
+    ensures values { values.new ≡ with_cells values.old rows (λ j. (merged start clocks.old flags.old values.old rows j).value) rows.width }
 {
-    if clocks.width != flags.width {
-        return Err(GridError::UnequalWidths);
-    }
-    clocks.row_pair(from, to)?;
-    flags.row_pair(from, to)
-}
-
-// Merges row `from` of clocks and flags, a message's, into row `to`, a unit's, the unit's own cell too. What is refused changes nothing.
-// Each grid is a parameter of its own, as the rules of the project ask: the caller lends each memory apart. A loop over columns, since
-// both rows lie in one lent slice and the other row's cell is taken out by value first.
-pub fn merge_rows(
-    clocks: &mut Grid<'_, Clock>,
-    flags: &mut Grid<'_, bool>,
-    from: usize,
-    to: usize,
-) -> Result<(), GridError>
-    ensures answer { result ≡ ask_rows clocks.old flags.old from to (Ok tt) }
-    ensures clocks { clocks.new.cells.now ≡ (if is_ok result then merged_clocks clocks.old.cells.now flags.old.cells.now (row_pair clocks.old from to) else clocks.old.cells.now) }
-    ensures flags { flags.new.cells.now ≡ (if is_ok result then merged_flags clocks.old.cells.now flags.old.cells.now (row_pair clocks.old from to) else flags.old.cells.now) }
-    ensures clocks_loan { SameLoan clocks.old clocks.new }
-    ensures flags_loan { SameLoan flags.old flags.new }
-{
-    let rows = rows_to_merge(clocks, flags, from, to)?;
     for j in 0..rows.width {
-        merge_column(clocks.cells, flags.cells, rows, j);
+        merge_column(start, clocks, flags, values, rows, j);
     }
-    Ok(())
 }

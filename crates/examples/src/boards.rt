@@ -1,12 +1,12 @@
 // Boards that follow a recording, with and without measures: what each call answers, what is refused and by which number, and what a
 // refusal leaves as it was.
 use super::reading::PATTERN;
-use causality::{Board, Clock, Marked};
+use causality::{Answer, Bare, Board, Call, Clock, Event, Marked, Payload};
 use grid::Grid;
-use history::{Handling, Post, Refusal};
+use history::{Post, Refusal};
 use measures::{
-    Answer, Call, Ends, Event, FlowCount, Judge, JudgedMark, Measure, MeasuredBoard, Pattern,
-    Relabelling, Span, Verdict, replay,
+    Ends, FlowCount, Judge, JudgedMark, Measure, Measured, Pattern, Relabelling, Span, Verdict,
+    mark_judged, replay,
 };
 use std::test::Fail;
 
@@ -83,7 +83,7 @@ const SHORT: [Lent; 6] = [
     },
 ];
 
-// The same of the values, which a board without measures does not ask for.
+// The same of the values.
 const SHORT_OF_VALUES: [Lent; 3] = [
     Lent {
         cells: [8, 8, 7],
@@ -100,65 +100,83 @@ const SHORT_OF_VALUES: [Lent; 3] = [
     },
 ];
 
+// The numbers of the refusals of each call of a board, and of its making, in lent memory.
+fn refusals<P: Payload>(
+    payload: P,
+    board: &Board<P>,
+    clocks: &mut Grid<'_, Clock>,
+    flags: &mut Grid<'_, bool>,
+    values: &mut Grid<'_, P::Value>,
+    posts: &mut [Post],
+) -> [Option<u8>; 6]
+where
+    P: Drop,
+{
+    [
+        refused(board.send(clocks, flags, values, posts, 2, 9)),
+        refused(board.receive(clocks, flags, values, posts, 2, 9)),
+        refused(board.mark(clocks, flags, values, posts, 2, 9)),
+        refused(board.state(clocks, flags, values, posts, 9)),
+        refused(board.left(clocks, flags, values, posts)),
+        refused(Board::make(payload, 2, 2, clocks, flags, values, posts)),
+    ]
+}
+
 impl Memory {
-    // The numbers of the refusals of each call of a board without measures, and of its making, in a part of the memory.
-    fn refusals(&mut self, board: &Board, lent: Lent) -> [Option<u8>; 8] {
-        let mut clocks = Grid::new(front(&mut self.clocks, lent.cells[0]), lent.widths[0]);
-        let mut flags = Grid::new(front(&mut self.flags, lent.cells[1]), lent.widths[1]);
+    // The refusals of a board without measures, in a part of the memory.
+    fn refusals(&mut self, board: &Board<Bare>, lent: Lent) -> [Option<u8>; 6] {
+        let mut nothing = [(); 12];
+        let clocks = &mut Grid::new(front(&mut self.clocks, lent.cells[0]), lent.widths[0]);
+        let flags = &mut Grid::new(front(&mut self.flags, lent.cells[1]), lent.widths[1]);
+        let values = &mut Grid::new(front(&mut nothing, lent.cells[2]), lent.widths[2]);
         let posts = front(&mut self.posts, lent.places);
-        [
-            refused(board.ask_unit(&clocks, &flags, posts, 2)),
-            refused(board.ask_message(&clocks, &flags, posts, 2, 9, Handling::Sending)),
-            refused(board.send(&mut clocks, &mut flags, posts, 2, 9)),
-            refused(board.receive(&mut clocks, &mut flags, posts, 2, 9)),
-            refused(board.mark(&mut clocks, &mut flags, posts, 2)),
-            refused(board.state(&clocks, &flags, posts, 9)),
-            refused(board.left(&clocks, &flags, posts)),
-            refused(Board::make(2, 2, &mut clocks, &mut flags, posts)),
-        ]
+        refusals(Bare, board, clocks, flags, values, posts)
     }
 
     // The same of a board under the pattern.
     fn measured_refusals(
         &mut self,
         pattern: Pattern,
-        board: &MeasuredBoard<Pattern>,
+        board: &Board<Measured<Pattern>>,
         lent: Lent,
-    ) -> [Option<u8>; 7] {
-        let mut clocks = Grid::new(front(&mut self.clocks, lent.cells[0]), lent.widths[0]);
-        let mut flags = Grid::new(front(&mut self.flags, lent.cells[1]), lent.widths[1]);
-        let mut values = Grid::new(front(&mut self.values, lent.cells[2]), lent.widths[2]);
+    ) -> [Option<u8>; 6] {
+        let clocks = &mut Grid::new(front(&mut self.clocks, lent.cells[0]), lent.widths[0]);
+        let flags = &mut Grid::new(front(&mut self.flags, lent.cells[1]), lent.widths[1]);
+        let values = &mut Grid::new(front(&mut self.values, lent.cells[2]), lent.widths[2]);
         let posts = front(&mut self.posts, lent.places);
-        [
-            refused(board.send(&mut clocks, &mut flags, &mut values, posts, 2, 9)),
-            refused(board.receive(&mut clocks, &mut flags, &mut values, posts, 2, 9)),
-            refused(board.mark(&mut clocks, &mut flags, &mut values, posts, 2, 9)),
-            refused(board.mark_judged(&mut clocks, &mut flags, &mut values, posts, 2, 9)),
-            refused(board.state(&clocks, &flags, &values, posts, 9)),
-            refused(board.left(&clocks, &flags, &values, posts)),
-            refused(MeasuredBoard::make(
-                pattern,
-                2,
-                2,
-                &mut clocks,
-                &mut flags,
-                &mut values,
-                posts,
-            )),
-        ]
+        refusals(
+            Measured { measure: pattern },
+            board,
+            clocks,
+            flags,
+            values,
+            posts,
+        )
     }
 
     // Makes a board under the pattern, in just enough of the memory.
-    fn make(&mut self, pattern: Pattern) -> Result<MeasuredBoard<Pattern>, Refusal> {
+    fn make(&mut self, pattern: Pattern) -> Result<Board<Measured<Pattern>>, Refusal> {
         let clocks = &mut Grid::new(front(&mut self.clocks, 8), 2);
         let flags = &mut Grid::new(front(&mut self.flags, 8), 2);
         let values = &mut Grid::new(front(&mut self.values, 8), 2);
         let posts = front(&mut self.posts, 2);
-        MeasuredBoard::make(pattern, 2, 2, clocks, flags, values, posts)
+        Board::make(
+            Measured { measure: pattern },
+            2,
+            2,
+            clocks,
+            flags,
+            values,
+            posts,
+        )
     }
 
     // Hands a call to that board.
-    fn hand(&mut self, board: &MeasuredBoard<Pattern>, call: Call) -> Result<Answer<u64>, Refusal> {
+    fn hand(
+        &mut self,
+        board: &Board<Measured<Pattern>>,
+        call: Call,
+    ) -> Result<Answer<u64>, Refusal> {
         let clocks = &mut Grid::new(front(&mut self.clocks, 8), 2);
         let flags = &mut Grid::new(front(&mut self.flags, 8), 2);
         let values = &mut Grid::new(front(&mut self.values, 8), 2);
@@ -169,42 +187,32 @@ impl Memory {
     // A unit of that board makes a mark, which the pattern judges.
     fn judge(
         &mut self,
-        board: &MeasuredBoard<Pattern>,
+        board: &Board<Measured<Pattern>>,
         unit: usize,
         label: u8,
     ) -> Result<JudgedMark<u64>, Refusal> {
         let clocks = &mut Grid::new(front(&mut self.clocks, 8), 2);
         let flags = &mut Grid::new(front(&mut self.flags, 8), 2);
         let values = &mut Grid::new(front(&mut self.values, 8), 2);
-        board.mark_judged(clocks, flags, values, &self.posts, unit, label)
+        mark_judged(board, clocks, flags, values, &self.posts, unit, label)
     }
 
     // Makes a board without measures there.
-    fn make_bare(&mut self) -> Result<Board, Refusal> {
+    fn make_bare(&mut self) -> Result<Board<Bare>, Refusal> {
+        let mut nothing = [(); 8];
         let clocks = &mut Grid::new(front(&mut self.clocks, 8), 2);
         let flags = &mut Grid::new(front(&mut self.flags, 8), 2);
-        Board::make(2, 2, clocks, flags, front(&mut self.posts, 2))
+        let values = &mut Grid::new(&mut nothing, 2);
+        Board::make(Bare, 2, 2, clocks, flags, values, front(&mut self.posts, 2))
     }
 
     // Hands a call to that one.
-    fn hand_bare(&mut self, board: &Board, call: Call) -> Result<Answer<()>, Refusal> {
+    fn hand_bare(&mut self, board: &Board<Bare>, call: Call) -> Result<Answer<()>, Refusal> {
+        let mut nothing = [(); 8];
         let clocks = &mut Grid::new(front(&mut self.clocks, 8), 2);
         let flags = &mut Grid::new(front(&mut self.flags, 8), 2);
-        let posts = front(&mut self.posts, 2);
-        match call.event {
-            Event::Send(message) => {
-                let own = board.send(clocks, flags, posts, call.unit, message)?;
-                Ok(Answer::OwnClock(own))
-            }
-            Event::Receive(message) => {
-                let own = board.receive(clocks, flags, posts, call.unit, message)?;
-                Ok(Answer::OwnClock(own))
-            }
-            Event::Mark(_) => {
-                let marked = board.mark(clocks, flags, posts, call.unit)?;
-                Ok(Answer::Marked(marked))
-            }
-        }
+        let values = &mut Grid::new(&mut nothing, 2);
+        board.hand(clocks, flags, values, front(&mut self.posts, 2), call)
     }
 }
 
@@ -225,71 +233,73 @@ fn sizes_that_are_refused(rt: HostRuntime) -> Result<(), Fail> {
         let clocks = &mut Grid::new(&mut [], units);
         let flags = &mut Grid::new(&mut [], units);
         let values = &mut Grid::new(&mut [], units);
-        let bare = Board::make(units, messages, clocks, flags, &mut []);
-        let made = MeasuredBoard::make(count, units, messages, clocks, flags, values, &mut []);
+        let nothing = &mut Grid::new(&mut [], units);
+        let bare = Board::make(Bare, units, messages, clocks, flags, nothing, &mut []);
+        let made = Board::make(
+            Measured { measure: count },
+            units,
+            messages,
+            clocks,
+            flags,
+            values,
+            &mut [],
+        );
         assert_eq!(rt; refused(bare), Some(number));
         assert_eq!(rt; refused(made), Some(number));
     }
-    assert_eq!(rt; refused(Board::sized(0, 256)), Some(1));
-    assert_eq!(rt; refused(Board::sized(16, 256)), Some(2));
-    assert_eq!(rt; refused(Board::sized(16, 255)), None);
+    assert_eq!(rt; refused(Board::sized(Bare, 0, 256)), Some(1));
+    assert_eq!(rt; refused(Board::sized(Bare, 16, 256)), Some(2));
+    assert_eq!(rt; refused(Board::sized(Bare, 16, 255)), None);
     Ok(())
 }
 
 // Makes the largest board, of 271 rows of 16 cells, in that many cells.
-fn largest(cells: usize) -> Result<Board, Refusal> {
+fn largest(cells: usize) -> Result<Board<Bare>, Refusal> {
     let (mut clocks, mut flags, mut posts) = ([9; 4336], [true; 4336], [Post::Delivered; 255]);
+    let mut nothing = [(); 4336];
     let clocks = &mut Grid::new(front(&mut clocks, cells), 16);
     let flags = &mut Grid::new(front(&mut flags, cells), 16);
-    Board::make(16, 255, clocks, flags, &mut posts)
+    let values = &mut Grid::new(&mut nothing, 16);
+    Board::make(Bare, 16, 255, clocks, flags, values, &mut posts)
 }
 
 #[test]
 fn the_largest_board(rt: HostRuntime) {
-    assert_eq!(rt; largest(4336), Board::sized(16, 255));
+    assert_eq!(rt; refused(largest(4336)), None);
     assert_eq!(rt; refused(largest(4335)), Some(3));
 }
 
-// Memory is asked for before all else, and nothing is written where it is too short. Without measures no values are asked for.
+// Memory is asked for before all else, and nothing is written where it is too short.
 #[test]
 fn memory_that_is_too_short(rt: HostRuntime) -> Result<(), Fail> {
     let pattern = Pattern::read(&PATTERN)?;
     let mut memory = WRITTEN_BEFORE;
     let made = memory.make(pattern)?;
-    let bare = Board::sized(2, 2)?;
+    let bare = Board::sized(Bare, 2, 2)?;
     memory = WRITTEN_BEFORE;
     for lent in SHORT {
-        assert_eq!(rt; memory.refusals(&bare, lent), [Some(3); 8]);
+        assert_eq!(rt; memory.refusals(&bare, lent), [Some(3); 6]);
         assert_eq!(rt;
             memory.measured_refusals(pattern, &made, lent),
-            [Some(3); 7]
+            [Some(3); 6]
         );
         assert_eq!(rt; memory, WRITTEN_BEFORE);
     }
     for lent in SHORT_OF_VALUES {
         assert_eq!(rt;
             memory.measured_refusals(pattern, &made, lent),
-            [Some(3); 7]
+            [Some(3); 6]
         );
         assert_eq!(rt; memory, WRITTEN_BEFORE);
     }
     assert_eq!(rt;
         memory.measured_refusals(pattern, &made, ENOUGH),
-        [Some(4), Some(4), Some(4), Some(4), Some(5), None, None]
+        [Some(4), Some(4), Some(4), Some(5), None, None]
     );
     assert_eq!(rt; memory.values, [1, 1, 1, 1, 1, 1, 1, 1, 9, 9, 9, 9]);
     assert_eq!(rt;
         memory.refusals(&bare, ENOUGH),
-        [
-            Some(4),
-            Some(4),
-            Some(4),
-            Some(4),
-            Some(4),
-            Some(5),
-            None,
-            None
-        ]
+        [Some(4), Some(4), Some(4), Some(5), None, None]
     );
     Ok(())
 }
@@ -334,7 +344,15 @@ fn the_last_mark_of_a_unit(rt: HostRuntime) -> Result<(), Fail> {
     let flags = &mut Grid::new(&mut flags, 1);
     let values = &mut Grid::new(&mut values, 1);
     let span = Span::new(1, 9)?;
-    let made = MeasuredBoard::make(span, 1, 0, clocks, flags, values, &mut [])?;
+    let made = Board::make(
+        Measured { measure: span },
+        1,
+        0,
+        clocks,
+        flags,
+        values,
+        &mut [],
+    )?;
     for clock in 1..=65535 {
         let told = made.mark(clocks, flags, values, &[], 0, 0)?;
         assert_eq!(rt; told.clock, clock);
@@ -351,8 +369,13 @@ fn the_last_mark_of_a_unit(rt: HostRuntime) -> Result<(), Fail> {
         refused(made.mark(clocks, flags, values, &[], 0, 0)),
         Some(10)
     );
-    let bare = Board::sized(1, 0)?;
-    assert_eq!(rt; refused(bare.mark(clocks, flags, &[], 0)), Some(10));
+    let bare = Board::sized(Bare, 1, 0)?;
+    let mut nothing = [()];
+    let nothing = &mut Grid::new(&mut nothing, 1);
+    assert_eq!(rt;
+        refused(bare.mark(clocks, flags, nothing, &[], 0, 0)),
+        Some(10)
+    );
     assert_eq!(rt; clocks.cell(0, 0), Some(65535));
     assert_eq!(rt; values.cell(0, 0), Some(full));
     Ok(())
@@ -395,7 +418,7 @@ fn the_player_waits_first(rt: HostRuntime) -> Result<(), Fail> {
 fn a_message_on_its_way(rt: HostRuntime) -> Result<(), Fail> {
     let mut memory = WRITTEN_BEFORE;
     let board = memory.make(Pattern::read(&PATTERN)?)?;
-    let bare = Board::sized(2, 2)?;
+    let bare = Board::sized(Bare, 2, 2)?;
     let call = Call {
         unit: 1,
         event: Event::Send(0),
@@ -410,17 +433,14 @@ fn a_message_on_its_way(rt: HostRuntime) -> Result<(), Fail> {
         Ok(Post::OnItsWay)
     );
     assert_eq!(rt; board.left(clocks, flags, values, posts), Ok(1));
+    let mut nothing = [(); 8];
+    let nothing = &Grid::new(&mut nothing, 2);
+    assert_eq!(rt; bare.has_memory(clocks, flags, nothing, posts), true);
     assert_eq!(rt;
-        bare.fits(values) && bare.has_memory(clocks, flags, posts),
-        true
+        bare.state(clocks, flags, nothing, posts, 1),
+        Ok(Post::Unsent)
     );
-    assert_eq!(rt; bare.ask_unit(clocks, flags, posts, 1), Ok(()));
-    assert_eq!(rt;
-        bare.ask_message(clocks, flags, posts, 0, 0, Handling::Receiving),
-        Ok(Post::Delivered)
-    );
-    assert_eq!(rt; bare.state(clocks, flags, posts, 1), Ok(Post::Unsent));
-    assert_eq!(rt; bare.left(clocks, flags, posts), Ok(1));
+    assert_eq!(rt; bare.left(clocks, flags, nothing, posts), Ok(1));
     Ok(())
 }
 
@@ -504,7 +524,9 @@ where
     let count = replay(
         measure, 3, 3, clocks, flags, values, &mut posts, calls, answers,
     )?;
-    let left = Board::sized(3, 3)?.left(clocks, flags, &posts)?;
+    let mut nothing = [(); 18];
+    let nothing = &Grid::new(&mut nothing, 3);
+    let left = Board::sized(Bare, 3, 3)?.left(clocks, flags, nothing, &posts)?;
     Ok((count, left))
 }
 
@@ -596,9 +618,17 @@ where
     let clocks = &mut Grid::new(&mut clocks, 1);
     let flags = &mut Grid::new(&mut flags, 1);
     let values = &mut Grid::new(values, 1);
-    let board = MeasuredBoard::make(judge, 1, 0, clocks, flags, values, &mut [])?;
+    let board = Board::make(
+        Measured { measure: judge },
+        1,
+        0,
+        clocks,
+        flags,
+        values,
+        &mut [],
+    )?;
     for &label in labels {
-        let told = board.mark_judged(clocks, flags, values, &[], 0, label)?;
+        let told = mark_judged(&board, clocks, flags, values, &[], 0, label)?;
         last = Some(told.verdict);
     }
     Ok(last)

@@ -1,10 +1,10 @@
 // Messages that move on, stamps that are compared, rows that are copied and merged, and what marks are worth.
 use super::reading::PATTERN;
 use bitset::positions;
-use causality::{Cell, Clock, Stamp, compare, merge_cell, merge_rows};
-use grid::{Grid, GridError};
+use causality::{Bare, Board, Cell, Clock, Stamp, compare, merge_cell};
+use grid::Grid;
 use history::{Handling, Post};
-use measures::{Ends, FlowCount, Pattern, Span, mark_value, merge_value, merge_values};
+use measures::{Ends, FlowCount, Measured, Pattern, Span, mark_value};
 use std::test::Fail;
 
 // The number of the state that a message moves to, or the refusal's.
@@ -85,7 +85,7 @@ fn cells_that_meet(rt: HostRuntime) {
 // Unit 0 marked and sent messages 0 and 1; unit 1 received 0, marked and sent 2; unit 2 received 1 and now receives 2, which overtook it.
 // Rows of three cells: units 0 to 2, messages 0 to 2, and one cell that is not the board's.
 #[test]
-fn a_message_overtaken_by_an_indirect_one(rt: HostRuntime) {
+fn a_message_overtaken_by_an_indirect_one(rt: HostRuntime) -> Result<(), Fail> {
     let mut clocks = [1, 0, 0, 1, 1, 0, 1, 0, 0, 1, 0, 0, 1, 0, 0, 1, 1, 0, 7];
     let mut flags = [
         true, false, false, false, true, false, true, false, false, true, false, false, true,
@@ -93,11 +93,14 @@ fn a_message_overtaken_by_an_indirect_one(rt: HostRuntime) {
     ];
     let mut clock_rows = Grid::new(&mut clocks, 3);
     let mut flag_rows = Grid::new(&mut flags, 3);
+    let mut posts = [Post::Delivered, Post::OnItsWay, Post::OnItsWay];
+    let mut nothing = [(); 18];
+    let nothing = &mut Grid::new(&mut nothing, 3);
+    let board = Board::sized(Bare, 3, 3)?;
     assert_eq!(rt;
-        merge_rows(&mut clock_rows, &mut flag_rows, 6, 2),
-        Err(GridError::NoSuchRow)
+        board.receive(&mut clock_rows, &mut flag_rows, nothing, &mut posts, 2, 2),
+        Ok(0)
     );
-    assert_eq!(rt; merge_rows(&mut clock_rows, &mut flag_rows, 5, 2), Ok(()));
     assert_eq!(rt;
         clocks,
         [1, 0, 0, 1, 1, 0, 1, 1, 0, 1, 0, 0, 1, 0, 0, 1, 1, 0, 7]
@@ -109,6 +112,7 @@ fn a_message_overtaken_by_an_indirect_one(rt: HostRuntime) {
             false, false, false, true, false, true,
         ]
     );
+    Ok(())
 }
 
 // A unit that has received two messages from one mark counts that mark's flows once.
@@ -125,25 +129,19 @@ fn two_messages_from_one_mark(rt: HostRuntime) -> Result<(), Fail> {
         flag: false,
         value: 1,
     };
-    assert_eq!(rt; merge_value(&count, flagged, flagged), 5);
-    assert_eq!(rt; merge_value(&count, flagged, passed), 1);
+    assert_eq!(rt; merge_cell(1, flagged, flagged).value, 5);
+    assert_eq!(rt; merge_cell(1, flagged, passed).value, 1);
     let mut clocks = [1, 0, 1, 0, 2, 1];
     let mut flags = [true, false, true, false, true, true];
     let mut values = [5, 1, 5, 1, 3, 4, 9];
-    let clock_rows = Grid::new(&mut clocks, 2);
-    let flag_rows = Grid::new(&mut flags, 2);
-    let mut value_rows = Grid::new(&mut values, 2);
+    let clock_rows = &mut Grid::new(&mut clocks, 2);
+    let flag_rows = &mut Grid::new(&mut flags, 2);
+    let value_rows = &mut Grid::new(&mut values, 2);
+    let mut posts = [Post::OnItsWay];
+    let board = Board::sized(Measured { measure: count }, 2, 1)?;
     assert_eq!(rt;
-        merge_values(&count, &clock_rows, &flag_rows, &mut value_rows, 3, 1),
-        Err(GridError::NoSuchRow)
-    );
-    assert_eq!(rt;
-        merge_values(&count, &clock_rows, &flag_rows, &mut value_rows, 0, 1),
-        Ok(())
-    );
-    assert_eq!(rt;
-        merge_values(&count, &clock_rows, &flag_rows, &mut value_rows, 2, 0),
-        Ok(())
+        board.receive(clock_rows, flag_rows, value_rows, &mut posts, 0, 0),
+        Ok(2)
     );
     assert_eq!(rt; values, [3, 4, 5, 1, 3, 4, 9]);
     Ok(())
@@ -183,41 +181,54 @@ fn marks_join_the_flows_before_them(rt: HostRuntime) -> Result<(), Fail> {
     Ok(())
 }
 
+// Clocks and flags of 2 units and a message, which brings unit 0 news of unit 1.
+const NEWS: ([Clock; 6], [bool; 6]) = (
+    [0, 0, 0, 2, 0, 2],
+    [false, false, false, true, false, true],
+);
+
 // One grid type for state sets and for spans: a new row, a send that copies one and a receipt that takes what is newer.
 #[test]
 fn rows_of_every_kind(rt: HostRuntime) -> Result<(), Fail> {
     let pattern = Pattern::read(&PATTERN)?;
     let span = Span::new(3, 9)?;
-    let mut clocks = [0, 0, 0, 2, 0, 2];
-    let mut flags = [false, false, false, true, false, true];
+    let (mut clocks, mut flags) = NEWS;
     let mut sets = [9, 9, 0x01, 0x04, 9, 9, 9];
     let mut ends = [Ends::default(); 7];
-    let clock_rows = Grid::new(&mut clocks, 2);
-    let flag_rows = Grid::new(&mut flags, 2);
-    let mut set_rows = Grid::new(&mut sets, 2);
-    assert_eq!(rt; set_rows.fill_rows(4, 0x02), Err(GridError::NoSuchRow));
-    assert_eq!(rt; set_rows.fill_rows(1, 0x02), Ok(()));
+    let clock_rows = &mut Grid::new(&mut clocks, 2);
+    let flag_rows = &mut Grid::new(&mut flags, 2);
+    let set_rows = &mut Grid::new(&mut sets, 2);
+    set_rows.fill_rows(4, 0x02);
+    assert_eq!(rt; set_rows.cell(0, 1), Some(9));
+    set_rows.fill_rows(1, 0x02);
     assert_eq!(rt; set_rows.cell(0, 1), Some(0x02));
-    assert_eq!(rt; set_rows.row(0), Ok(&[0x02, 0x02][..]));
-    assert_eq!(rt; set_rows.row(3), Err(GridError::NoSuchRow));
-    assert_eq!(rt; set_rows.fill_row(0, 0x01), Ok(()));
-    assert_eq!(rt; set_rows.copy_row(1, 2), Ok(()));
-    assert_eq!(rt; set_rows.copy_row(3, 2), Err(GridError::NoSuchRow));
+    assert_eq!(rt; set_rows.row(0), Some(&[0x02, 0x02][..]));
+    assert_eq!(rt; set_rows.row(3), None);
+    set_rows.fill_row(0, 0x01);
+    set_rows.copy_row(1, 2);
+    set_rows.copy_row(3, 2);
+    let board = Board::sized(Measured { measure: pattern }, 2, 1)?;
+    let mut posts = [Post::OnItsWay];
     assert_eq!(rt;
-        merge_values(&pattern, &clock_rows, &flag_rows, &mut set_rows, 2, 0),
-        Ok(())
+        board.receive(clock_rows, flag_rows, set_rows, &mut posts, 0, 0),
+        Ok(0)
     );
     assert_eq!(rt; sets, [0x01, 0x04, 0x01, 0x04, 0x01, 0x04, 9]);
-    let mut end_rows = Grid::new(&mut ends, 2);
+    let (mut clocks, mut flags) = NEWS;
+    let clock_rows = &mut Grid::new(&mut clocks, 2);
+    let flag_rows = &mut Grid::new(&mut flags, 2);
+    let end_rows = &mut Grid::new(&mut ends, 2);
     let two = Ends {
         shortest: 2,
         longest: 2,
     };
-    assert_eq!(rt; end_rows.set_cell(2, 1, two), Ok(()));
-    assert_eq!(rt; end_rows.set_cell(2, 2, two), Err(GridError::NoSuchColumn));
+    end_rows.set_cell(2, 1, two);
+    end_rows.set_cell(2, 2, two);
+    let board = Board::sized(Measured { measure: span }, 2, 1)?;
+    let mut posts = [Post::OnItsWay];
     assert_eq!(rt;
-        merge_values(&span, &clock_rows, &flag_rows, &mut end_rows, 2, 0),
-        Ok(())
+        board.receive(clock_rows, flag_rows, end_rows, &mut posts, 0, 0),
+        Ok(0)
     );
     assert_eq!(rt; ends[1], two);
     assert_eq!(rt; ends[0], Ends::default());

@@ -1,14 +1,9 @@
 -- Grids: the rows that they have, how their calls refuse, and what no call changes.
-use Rattle.std.specs.Prelude.{◌≡◌, ℕ, ◌+◌, ◌*◌, ◌≤◌, Bool, ◌&&◌, List, length, nat_le, if◌then◌else◌, Err, Result}
+use Rattle.std.specs.Prelude.{◌≡◌, ℕ, ◌+◌, ◌*◌, ◌≤◌, Bool, ◌&&◌, List, length, nat_le}
 use Rattle.std.proofs.Math.Seq.{paste}
 use Rattle.grid.specs.declared.Grid.{Grid}
 use Rattle.grid.specs.declared.RowPair.{RowPair}
-use Rattle.grid.specs.declared.errors.GridError.{GridError}
 use Rattle.grid.specs.Rows.{row_inside, tabled}
-
--- A question, what a no gives, and the answer where it is yes: the first no decides.
-abbrev pub ask : {X : Type 0} → Bool → GridError → Result X GridError → Result X GridError
-ask good error next = if good then next else Err error
 
 module _ {T : Type 0} (g : Grid T) where
   -- whether all of row r lies within the cells of the grid
@@ -22,10 +17,6 @@ module _ {T : Type 0} (g : Grid T) where
   -- whether the first rows lie within the cells
   abbrev pub has_first_rows : ℕ → Bool
   has_first_rows rows = nat_le (rows * g.width) (length g.cells.now)
-
-  -- two rows of the grid, one that is read and one that is written
-  abbrev pub row_pair : ℕ → ℕ → RowPair
-  row_pair from to = record { width = g.width; from = from; to = to }
 
 -- both rows lie within so many cells
 pub record LieWithin (rows : RowPair) (cells : ℕ) : Type 0 where

@@ -1,16 +1,11 @@
 // Rows of cells, one after another, in memory that the caller lends. Stands on nothing here.
 // One grid type serves clocks, flags and values of every kind; row r is the part that begins at cell r * width.
-// A call for a row or a column that is not there is refused, or answers none, and changes nothing.
+// A call for a row or a column that is not there answers none, or changes nothing.
 #![tactic(auto)]
 
-ghost use Rattle.std.specs.Prelude.{◌≡◌, ◌+◌, ◌*◌, ◌≤◌, ◌&&◌, ◌++◌, drop, length, replicate, if◌then◌else◌, IfOk, is_ok, IsTrue, false, MatchResult, nat_lt, slice_get, slice_index_or, slice_set};
-ghost use Rattle.grid.specs.declared.errors.GridError.TheVariants.{NoSuchRow, NoSuchColumn};
+ghost use Rattle.std.specs.Prelude.{◌≡◌, ◌+◌, ◌*◌, ◌≤◌, ◌&&◌, ◌++◌, drop, length, replicate, if◌then◌else◌, IsTrue, false, Some, None, MatchOption, nat_lt, slice_get, slice_index_or, slice_set};
 ghost use Rattle.grid.specs.Rows.{row as row_of, with_row};
-ghost use Rattle.grid.specs.Grids.{ask, has_first_rows, has_row, has_rows, row_pair, LieWithin, SameLoan};
-
-mod errors;
-
-pub use errors::GridError;
+ghost use Rattle.grid.specs.Grids.{has_first_rows, has_row, has_rows, LieWithin, SameLoan};
 
 // Rows of `width` cells each.
 #[derive(Drop)]
@@ -50,20 +45,6 @@ impl<T: Copy> Grid<'_, T> {
         start <= self.cells.len() && self.width <= self.cells.len() - start
     }
 
-    // Two rows, or the refusal of the first that is not there.
-    pub fn row_pair(&self, from: usize, to: usize) -> Result<RowPair, GridError>
-        ensures answer { result ≡ ask (has_rows self.now from to) NoSuchRow (Ok (row_pair self.now from to)) }
-        ensures inside { IfOk result (λ rows. LieWithin rows (length self.now.cells.now)) }
-    {
-        self.start_of(from)?;
-        self.start_of(to)?;
-        Ok(RowPair {
-            width: self.width,
-            from,
-            to,
-        })
-    }
-
     // One cell, by value; none where the row or the column is not there.
     pub fn cell(&self, row: usize, column: usize) -> Option<T>
         ensures { result ≡ (if has_row self.now row && nat_lt column self.now.width then slice_get self.now.cells.now (row * self.now.width + column) else None) }
@@ -75,78 +56,61 @@ impl<T: Copy> Grid<'_, T> {
         }
     }
 
-    // The cells of a row, lent to be read.
-    pub fn row(&self, row: usize) -> Result<&[T], GridError>
-        ensures { MatchResult result (λ cells. IsTrue (has_row self.now row) × (cells.now ≡ row_of self.now.cells.now self.now.width row)) (λ error. (has_row self.now row ≡ false) × (error ≡ NoSuchRow)) }
+    // The cells of a row, lent to be read; none where it is not there.
+    pub fn row(&self, row: usize) -> Option<&[T]>
+        ensures { MatchOption result (has_row self.now row ≡ false) (λ cells. IsTrue (has_row self.now row) × (cells.now ≡ row_of self.now.cells.now self.now.width row)) }
     {
-        let start = self.start_of(row)?;
-        self.cells
-            .get(start..start + self.width)
-            .ok_or(GridError::NoSuchRow)
-    }
-
-    // Sets one cell.
-    #[tactic(auto, using(crate::proofs::Cells::put_at))]
-    pub fn set_cell(&mut self, row: usize, column: usize, v: T) -> Result<(), GridError>
-        ensures answer { result ≡ ask (has_row self.old row) NoSuchRow (ask (nat_lt column self.old.width) NoSuchColumn (Ok tt)) }
-        ensures cells { self.new.cells.now ≡ (if is_ok result then slice_set self.old.cells.now (row * self.old.width + column) v else self.old.cells.now) }
-        ensures loan { SameLoan self.old self.new }
-    {
-        let start = self.start_of(row)?;
-        if column >= self.width {
-            return Err(GridError::NoSuchColumn);
+        if !self.has_row(row) {
+            return None;
         }
-        put(&mut self.cells[start..], column, v);
-        Ok(())
+        let start = row * self.width;
+        Some(&self.cells[start..start + self.width])
     }
 
-    // Sets each cell of a row.
-    pub fn fill_row(&mut self, row: usize, v: T) -> Result<(), GridError>
-        ensures answer { result ≡ ask (has_row self.old row) NoSuchRow (Ok tt) }
-        ensures cells { self.new.cells.now ≡ (if is_ok result then with_row self.old.cells.now self.old.width row (replicate self.old.width v) else self.old.cells.now) }
+    // Sets one cell; where the row or the column is not there, nothing.
+    #[tactic(auto, using(crate::proofs::Cells::put_at))]
+    pub fn set_cell(&mut self, row: usize, column: usize, v: T)
+        ensures cells { self.new.cells.now ≡ (if has_row self.old row && nat_lt column self.old.width then slice_set self.old.cells.now (row * self.old.width + column) v else self.old.cells.now) }
         ensures loan { SameLoan self.old self.new }
     {
-        let start = self.start_of(row)?;
-        let end = start + self.width;
-        fill(&mut self.cells[start..end], v);
-        Ok(())
+        if self.has_row(row) && column < self.width {
+            put(&mut self.cells[row * self.width..], column, v);
+        }
     }
 
-    // Sets each cell of the first rows.
-    pub fn fill_rows(&mut self, rows: usize, v: T) -> Result<(), GridError>
-        ensures answer { result ≡ ask (has_first_rows self.old rows) NoSuchRow (Ok tt) }
-        ensures cells { self.new.cells.now ≡ (if is_ok result then replicate (rows * self.old.width) v ++ drop (rows * self.old.width) self.old.cells.now else self.old.cells.now) }
+    // Sets each cell of a row, if it is there.
+    pub fn fill_row(&mut self, row: usize, v: T)
+        ensures cells { self.new.cells.now ≡ (if has_row self.old row then with_row self.old.cells.now self.old.width row (replicate self.old.width v) else self.old.cells.now) }
+        ensures loan { SameLoan self.old self.new }
+    {
+        if self.has_row(row) {
+            let start = row * self.width;
+            let end = start + self.width;
+            fill(&mut self.cells[start..end], v);
+        }
+    }
+
+    // Sets each cell of the first rows, if they are there.
+    pub fn fill_rows(&mut self, rows: usize, v: T)
+        ensures cells { self.new.cells.now ≡ (if has_first_rows self.old rows then replicate (rows * self.old.width) v ++ drop (rows * self.old.width) self.old.cells.now else self.old.cells.now) }
         ensures loan { SameLoan self.old self.new }
     {
         let Some(count) = rows.checked_mul(self.width) else {
-            return Err(GridError::NoSuchRow);
+            return;
         };
-        if count > self.cells.len() {
-            return Err(GridError::NoSuchRow);
+        if count <= self.cells.len() {
+            fill(&mut self.cells[0..count], v);
         }
-        fill(&mut self.cells[0..count], v);
-        Ok(())
     }
 
-    // Copies one row to another.
-    pub fn copy_row(&mut self, from: usize, to: usize) -> Result<(), GridError>
-        ensures answer { result ≡ ask (has_rows self.old from to) NoSuchRow (Ok tt) }
-        ensures cells { self.new.cells.now ≡ (if is_ok result then with_row self.old.cells.now self.old.width to (row_of self.old.cells.now self.old.width from) else self.old.cells.now) }
+    // Copies one row to another, if both are there.
+    pub fn copy_row(&mut self, from: usize, to: usize)
+        ensures cells { self.new.cells.now ≡ (if has_rows self.old from to then with_row self.old.cells.now self.old.width to (row_of self.old.cells.now self.old.width from) else self.old.cells.now) }
         ensures loan { SameLoan self.old self.new }
     {
-        let rows = self.row_pair(from, to)?;
-        copy(self.cells, rows);
-        Ok(())
-    }
-
-    // The place of a row's first cell.
-    fn start_of(&self, row: usize) -> Result<usize, GridError>
-        ensures { result ≡ ask (has_row self.now row) NoSuchRow (Ok (row * self.now.width)) }
-    {
-        if self.has_row(row) {
-            Ok(row * self.width)
-        } else {
-            Err(GridError::NoSuchRow)
+        if self.has_row(from) && self.has_row(to) {
+            let width = self.width;
+            copy(self.cells, RowPair { width, from, to });
         }
     }
 }
@@ -176,6 +140,15 @@ pub fn fill<T: Copy>(part: &mut [T], v: T)
     for cell in part.iter_mut() {
         *cell = v;
     }
+}
+
+// Sets each cell of a row that is there.
+pub fn reset_row<T: Copy>(cells: &mut [T], width: usize, row: usize, v: T)
+    requires { row * width + width ≤ length cells.old }
+    ensures { cells.new ≡ with_row cells.old width row (replicate width v) }
+{
+    let start = row * width;
+    fill(&mut cells[start..start + width], v);
 }
 
 // Copies the cells of the row that is read to the row that is written.

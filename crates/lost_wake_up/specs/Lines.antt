@@ -2,11 +2,11 @@
 use Rattle.std.specs.Prelude.{ℕ, Bool, List, ◌++◌, Ok, Err, Result, codes, decimal}
 use Rattle.history.specs.declared.refusals.Refusal.{Refusal}
 use Rattle.history.specs.Refusals.{number}
-use Rattle.measures.specs.declared.calls.Answer.{Answer}
-use Rattle.measures.specs.declared.calls.Answer.TheVariants as answers
-use Rattle.measures.specs.declared.calls.Call.{Call}
-use Rattle.measures.specs.declared.calls.Event.{Event}
-use Rattle.measures.specs.declared.calls.Event.TheVariants.{Send, Receive, Mark}
+use Rattle.causality.specs.declared.calls.Answer.{Answer}
+use Rattle.causality.specs.declared.calls.Answer.TheVariants as answers
+use Rattle.causality.specs.declared.calls.Call.{Call}
+use Rattle.causality.specs.declared.calls.Event.{Event}
+use Rattle.causality.specs.declared.calls.Event.TheVariants.{Send, Receive, Mark}
 use Rattle.text.specs.Hex.{hex_word}
 use Rattle.text.specs.Lines.{bit}
 use Rattle.lost_wake_up.specs.declared.lines.Reply.{Reply}

@@ -2,9 +2,9 @@
 ghost use Rattle.std.specs.Prelude.{◌≡◌};
 ghost use Rattle.lost_wake_up.specs.Lines.{reply_to};
 
-use causality::Clock;
+use causality::{Answer, Call, Clock, Event};
 use history::Refusal;
-use measures::{Answer, Call, Event, Judge, JudgedMark, verdicts};
+use measures::{Judge, JudgedMark, verdicts};
 use std::fmt;
 use text::Hex;
 

@@ -6,11 +6,11 @@
 mod lines;
 
 use anyhow::Result;
-use causality::Board;
+use causality::{Board, Call, Event};
 use grid::Grid;
 use history::{Post, Refusal};
 use lines::{Answered, CallLine, Reply};
-use measures::{Call, Event, Pattern, replay};
+use measures::{Measured, Pattern, replay};
 
 // The wake-up pattern. A flow is good if it is made of rounds, one or more: a waiting, then waitings and beacons of which the last is a beacon, then a sound.
 const PATTERN: [u8; 27] = [
@@ -97,7 +97,8 @@ fn main(rt: HostRuntime) -> Result<()> {
         &mut answers,
     )?;
     print_answers(&rt, &pattern, &calls, &answers[..count])?;
-    let left = Board::sized(UNITS, MESSAGES)?.left(&clocks, &flags, &posts)?;
+    let board = Board::sized(Measured { measure: pattern }, UNITS, MESSAGES)?;
+    let left = board.left(&clocks, &flags, &values, &posts)?;
     println!(rt; "left {left}")?;
     Ok(())
 }

@@ -20,10 +20,10 @@ use Rattle.history.proofs.RowOf.{Row}
 use Rattle.history.proofs.Runs.{SoundAt, sound_run}
 use Rattle.history.proofs.Sound.{Ranged}
 use Rattle.history.proofs.Stamps.{clocks_stamp}
-use Rattle.history.specs.Marks.{IsMark, marks}
+use Rattle.history.specs.Marks.{IsMark}
 use Rattle.history.specs.Rows.{Cell, Payload}
 use Rattle.history.specs.Runs.{Size, Call}
-use Rattle.history.specs.Board.{State, Answer, Reply, new_history, own_clock, marked, outcomes, run}
+use Rattle.history.specs.Board.{State, Answer, Reply, new_history, marked, outcomes, run}
 use Rattle.history.specs.Laws.{SameHistory, OrderFree, answers_of, message_told}
 use Rattle.history.proofs.Accepting.{accepts_runs}
 use Rattle.history.proofs.Answering.{messages_answered}
@@ -31,12 +31,13 @@ use Rattle.history.proofs.OrderFree.{order_free}
 use Rattle.history.proofs.Outcomes.{outcomes_told}
 use Rattle.history.specs.Limits.{most_marks}
 use Rattle.causality.specs.Boards.{Memory, Holds, Shows, Follows, Makes, state_answer, left_answer}
+use Rattle.causality.specs.Calls.{Obeys, has_room}
 use Rattle.causality.proofs.Leaving.{each_shows, travelling_same}
 use Rattle.measures.specs.Words.{Word}
 use Rattle.measures.specs.Measures.{Meaning, Lawful}
-use Rattle.measures.specs.Worths.{carrying, sized}
+use Rattle.measures.specs.Worths.{carrying, sized, load}
 use Rattle.measures.specs.Laws.{accepted_events, Valued, Judged, AtMarks, MarksJudged}
-use Rattle.measures.specs.Boards.{StandAlike, Obeys, taken, Played, MarkAnswered, Agree, AtAnswers, MarksGood, LawOfBoards}
+use Rattle.measures.specs.Boards.{StandAlike, taken, Played, MarkAnswered, Agree, AtAnswers, MarksGood, LawOfBoards}
 use Rattle.measures.proofs.Judging.{marks_judged}
 use Rattle.measures.proofs.Replaying.{state_push, outcomes_push, last_outcome, accepted_taken}
 use Rattle.measures.proofs.Valuing.{valued}
@@ -65,9 +66,9 @@ module _ {V : Type 0} (n k : ℕ) (s t : State V) (rows : (u j : ℕ) → s.rows
   -- Memories that show such states stand alike.
   stand_alike : (start : V) (a b : Memory V) → ((p : ℕ) → s.posts p ≡ t.posts p) → Shows start n k a s → Shows start n k b t → StandAlike start n k a b
   stand_alike start a b posts x y = record {
-    clocks = same_grid (λ c. c.clock) 0 a.clocks b.clocks x.clocks y.clocks;
-    flags = same_grid (λ c. c.flag) false a.flags b.flags x.flags y.flags;
-    values = same_grid (λ c. c.value) start a.values b.values x.values y.values;
+    clocks = same_grid (λ c. c.clock) 0 a.clocks.cells.now b.clocks.cells.now x.clocks y.clocks;
+    flags = same_grid (λ c. c.flag) false a.flags.cells.now b.flags.cells.now x.flags y.flags;
+    values = same_grid (λ c. c.value) start a.values.cells.now b.values.cells.now x.values y.values;
     posts = λ p h. x.posts p h ∙ posts p ∙ sym (y.posts p h);
   }
 
@@ -97,9 +98,10 @@ module _ {V : Type 0} (m : Meaning V) (n k : ℕ) where
 
   -- a call that follows the rules is one more
   played_called : (cs : List Call) (xs : List (Result (Answer V) Refusal)) (old new : Memory V) (c : Call) (x : Result (Answer V) Refusal)
-      → Played m n k cs xs old → Follows M z c true old new x → Played m n k (cs ++ c ∷ []) (xs ++ x ∷ []) new
-  played_called cs xs old new c x p f =
+      → Played m n k cs xs old → Obeys (load m) n k c old new x → has_room n k old ≡ true → Played m n k (cs ++ c ∷ []) (xs ++ x ∷ []) new
+  played_called cs xs old new c x p o there =
       let s = (run M z cs).state in
+      let f = subst (λ (b : Bool). Follows M z c b old new x) there o.follows in
       record {
         answers_are = ap₂ (λ (l : List (Result (Answer V) Refusal)) (y : Result (Answer V) Refusal). l ++ y ∷ []) p.answers_are (f.answer s p.shows)
             ∙ sym (outcomes_push M z cs c);
@@ -108,17 +110,19 @@ module _ {V : Type 0} (m : Meaning V) (n k : ℕ) where
 
   -- A call whose memory is too short is refused, and the board stands as it did.
   played_short : (cs : List Call) (xs : List (Result (Answer V) Refusal)) (old new : Memory V) (c : Call) (x : Result (Answer V) Refusal)
-      → Played m n k cs xs old → Follows M z c false old new x → (x ≡ Err MemoryTooShort) × Played m n k cs xs new
-  played_short cs xs old new c x p f =
-      let s = (run M z cs).state in (f.answer s p.shows, record { answers_are = p.answers_are; shows = f.state s p.shows })
+      → Played m n k cs xs old → Obeys (load m) n k c old new x → has_room n k old ≡ false → (x ≡ Err MemoryTooShort) × Played m n k cs xs new
+  played_short cs xs old new c x p o short =
+      let s = (run M z cs).state in
+      let f = subst (λ (b : Bool). Follows M z c b old new x) short o.follows in
+      (f.answer s p.shows, record { answers_are = p.answers_are; shows = f.state s p.shows })
 
   -- One call more of two lists that a loop goes over, which writes each answer where a thing of its own stood.
   pub played_mapped : {A B : Type 0} (f : A → Call) (g : B → Result (Answer V) Refusal) (ds : List A) (ys : List B) (i : ℕ) (d : A) (y : B)
       → i < length ds → i < length ys → (old new : Memory V) → Played m n k (map f (take i ds)) (map g (take i ys)) old
-      → Obeys m n k (f (get_or ds i d)) true old new (g y) → Played m n k (map f (take (i + 1) ds)) (map g (take (i + 1) (set ys i y))) new
-  played_mapped f g ds ys i d y h h' old new p o =
+      → Obeys (load m) n k (f (get_or ds i d)) old new (g y) → has_room n k old ≡ true → Played m n k (map f (take (i + 1) ds)) (map g (take (i + 1) (set ys i y))) new
+  played_mapped f g ds ys i d y h h' old new p o there =
       rw (map_more f ds i d h, take_more_set ys i y h', map_push g (take i ys) y)
-      (played_called (map f (take i ds)) (map g (take i ys)) old new (f (get_or ds i d)) (g y) p o)
+      (played_called (map f (take i ds)) (map g (take i ys)) old new (f (get_or ds i d)) (g y) p o there)
 
   -- Boards whose histories stand alike stand alike.
   played_alike : (cs ds : List Call) (xs ys : List (Result (Answer V) Refusal)) (a b : Memory V) → Played m n k cs xs a → Played m n k ds ys b
@@ -176,16 +180,16 @@ module _ {V : Type 0} (m : Meaning V) (n k : ℕ) (cs : List Call) (xs : List (R
       (subst (λ (j : ℕ). Row (carrying m n) (accepted_events m n k most_marks cs) u j ((run (carrying m n) (sized m n k most_marks) cs).state.rows u)) last (sound.rows_are u))
 
   -- what a row that is read from the memory has for unit v
-  in_row : (v : ℕ) → v < n → slice_index (row memory.clocks n u) v ≡ ((run (carrying m n) (sized m n k most_marks) cs).state.rows u v).clock
+  in_row : (v : ℕ) → v < n → slice_index (row memory.clocks.cells.now n u) v ≡ ((run (carrying m n) (sized m n k most_marks) cs).state.rows u v).clock
   in_row v h = read ∙ p.shows.clocks.rows u v (sound.ranged.unit u i l e) h
     where
-      read : get_or (row memory.clocks n u) v 0 ≡ get_or memory.clocks (u * n + v) 0
+      read : get_or (row memory.clocks.cells.now n u) v 0 ≡ get_or memory.clocks.cells.now (u * n + v) 0
       read = search (rules, places)
 
-  past_row : (v : ℕ) → n ≤ v → slice_index (row memory.clocks n u) v ≡ 0
-  past_row v h = get_or_past (row memory.clocks n u) v 0 (grind (arith, common_steps))
+  past_row : (v : ℕ) → n ≤ v → slice_index (row memory.clocks.cells.now n u) v ≡ 0
+  past_row v h = get_or_past (row memory.clocks.cells.now n u) v 0 (grind (arith, common_steps))
 
-  board_stamp : Stamp (accepted_events m n k most_marks cs) u i (λ v. slice_index (row memory.clocks n u) v)
+  board_stamp : Stamp (accepted_events m n k most_marks cs) u i (λ v. slice_index (row memory.clocks.cells.now n u) v)
   board_stamp v = elim (cases_lt v n) [
     | inl h ↦ rw (in_row v h) (row_stamp v)
     | inr h ↦ rw (past_row v h) (no_marks (accepted_events m n k most_marks cs) (sized m n k most_marks) sound.ranged v h (λ j. UpTo (accepted_events m n k most_marks cs) v j u i))
@@ -205,8 +209,8 @@ pub law_of_boards : {V : Type 0} (m : Meaning V) (admits : V → Type 0) → Law
 law_of_boards m admits laws = record {
   shows = λ n k. each_shows m.start n k;
   made = λ n k old new h. played_made m n k old new h;
-  called = λ n k cs xs old new c x p f. played_called m n k cs xs old new c x p f;
-  short = λ n k cs xs old new c x p f. played_short m n k cs xs old new c x p f;
+  called = λ n k cs xs old new c x p o r. played_called m n k cs xs old new c x p o r;
+  short = λ n k cs xs old new c x p o r. played_short m n k cs xs old new c x p o r;
   accepted_are = λ n k cs xs memory p. accepted_taken (carrying m n) (sized m n k most_marks) (new_history (carrying m n)) cs ∙ ap (taken cs) (sym p.answers_are);
   accepts = λ n k cs. accepts_runs (carrying m n) (sized m n k most_marks) cs;
   marks_answered = λ n k cs xs memory p u i l e. mark_answered m n k cs xs memory p u i (valued m admits laws n k most_marks cs u i l e);

@@ -1,16 +1,11 @@
 pub mod Accepting
-pub mod Asking
 pub mod BoardLaw
 pub mod Carrying
 mod FlowSizes
 pub mod Gathering
 mod Images
 pub mod Judging
-pub mod Lifting
-pub mod MarkedRows
 pub mod Members
-pub mod Merges
-pub mod Messages
 pub mod Playing
 mod Ranges
 pub mod Reaching
@@ -20,4 +15,5 @@ pub mod Replaying
 pub mod Totals
 pub mod Translating
 pub mod Valuing
+pub mod Worthing
 pub mod Worths

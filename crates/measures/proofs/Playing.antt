@@ -4,9 +4,8 @@ use Rattle.std.proofs.lemmas.Grind.{common_steps}
 use Rattle.std.proofs.lemmas.List.{get_or-set_other}
 use Rattle.grid.specs.declared.Grid.{Grid}
 use Rattle.grid.specs.Grids.{SameLoan}
-use Rattle.history.specs.declared.messages.Post.{Post}
 use Rattle.causality.specs.Boards.{Memory, SameFrom, SameBeyond, fits_board}
-use Rattle.measures.specs.Calls.{lent, has_rooms}
+use Rattle.causality.specs.Calls.{SameLoans, has_room}
 
 -- what was left alone twice was left alone
 from_twice : {X : Type 0} {other : X} {place : ℕ} {a b c : List X} → SameFrom other place a b → SameFrom other place b c → SameFrom other place a c
@@ -25,7 +24,7 @@ pub set_below : {X : Type 0} (other : X) (place i : ℕ) (a b c : List X) (x : X
 set_below other place i a b c x h p e =
     from_twice p (rw e (record { same_length = grind (arith, common_steps); rest = λ j l. get_or-set_other b i j x other (λ q. omega arith) }))
 
-pub memory_twice : {X : Type 0} {a b c : Grid X} → SameLoan a b → SameLoan b c → SameLoan a c
+memory_twice : {X : Type 0} {a b c : Grid X} → SameLoan a b → SameLoan b c → SameLoan a c
 memory_twice p q = record { width = q.width ∙ p.width; lender = q.lender ∙ p.lender }
 
 -- a grid that is as wide and as long as before fits as before
@@ -33,11 +32,12 @@ fits_kept : {X : Type 0} (n k : ℕ) (g h : Grid X) → SameLoan g h → length 
 fits_kept n k g h m e = ap₂ (λ (w len : ℕ). w == n && nat_le ((n + k) * n) len) m.width e
 
 -- so no call of a board changes whether there is room
-pub room_kept : {V : Type 0} (start : V) (n k : ℕ) (clocks clocks' : Grid ℕ) (flags flags' : Grid Bool) (values values' : Grid V) (posts posts' : List Post)
-    → SameLoan clocks clocks' → SameLoan flags flags' → SameLoan values values' → SameBeyond start n k (lent clocks flags values posts) (lent clocks' flags' values' posts')
-    → has_rooms n k clocks flags values posts ≡ true → has_rooms n k clocks' flags' values' posts' ≡ true
-room_kept start n k clocks clocks' flags flags' values values' posts posts' mc mf mv b room =
-    ap₂ (λ (x : Bool) (y : Bool). x && y) (fits_kept n k values values' mv b.values.same_length)
-    (ap₂ (λ (x : Bool) (y : Bool). x && y) (fits_kept n k clocks clocks' mc b.clocks.same_length)
-    (ap₂ (λ (x : Bool) (y : Bool). x && y) (fits_kept n k flags flags' mf b.flags.same_length) (ap (nat_le k) b.posts.same_length)))
+pub room_kept : {V : Type 0} (start : V) (n k : ℕ) (old new : Memory V) → SameLoans old new → SameBeyond start n k old new → has_room n k old ≡ true → has_room n k new ≡ true
+room_kept start n k old new l b room =
+    ap₂ (λ (x : Bool) (y : Bool). x && y) (fits_kept n k old.clocks new.clocks l.clocks b.clocks.same_length)
+    (ap₂ (λ (x : Bool) (y : Bool). x && y) (fits_kept n k old.flags new.flags l.flags b.flags.same_length)
+    (ap₂ (λ (x : Bool) (y : Bool). x && y) (fits_kept n k old.values new.values l.values b.values.same_length) (ap (nat_le k) b.posts.same_length)))
     ∙ room
+
+pub loans_twice : {V : Type 0} {a b c : Memory V} → SameLoans a b → SameLoans b c → SameLoans a c
+loans_twice p q = record { clocks = memory_twice p.clocks q.clocks; flags = memory_twice p.flags q.flags; values = memory_twice p.values q.values }

@@ -5,30 +5,26 @@ use Rattle.history.specs.declared.messages.Post.TheVariants.{Unsent}
 use Rattle.history.specs.declared.refusals.Refusal.{Refusal}
 use Rattle.history.specs.declared.refusals.Refusal.TheVariants.{MemoryTooShort}
 use Rattle.history.specs.Events.{Events, send, receive, mark}
-use Rattle.history.specs.Marks.{marks}
 use Rattle.history.specs.Stamps.{Stamp}
 use Rattle.history.specs.Runs.{Call, SameByUnit}
-use Rattle.history.specs.Board.{Answer, own_clock, marked, outcomes, run, accepted}
+use Rattle.history.specs.Board.{Answer, marked, outcomes, run, accepted}
 use Rattle.history.specs.Laws.{AcceptsRuns, answers_of, message_told}
 use Rattle.history.specs.Limits.{most_marks}
-use Rattle.causality.specs.Boards.{Memory, Shows, EachShows, Follows, Makes, state_answer, left_answer}
+use Rattle.causality.specs.Boards.{Memory, Shows, EachShows, Makes, state_answer, left_answer}
+use Rattle.causality.specs.Calls.{Obeys, has_room}
 use Rattle.measures.specs.Words.{Word}
 use Rattle.measures.specs.Measures.{Meaning}
 use Rattle.measures.specs.Judges.{Judges}
-use Rattle.measures.specs.Worths.{carrying, sized}
+use Rattle.measures.specs.Worths.{carrying, sized, load}
 use Rattle.measures.specs.Laws.{accepted_events, Valued, Judged}
 
 -- Two memories stand alike for a board of n units and k messages: all n + k rows of clocks, flags and values are equal, and so are the k
 -- places of the message memory. What lies beyond them may differ.
 pub record StandAlike {V : Type 0} (start : V) (n k : ℕ) (a b : Memory V) : Type 0 where
-  pub clocks : (r j : ℕ) → r < n + k → j < n → slice_index_or a.clocks (r * n + j) 0 ≡ slice_index_or b.clocks (r * n + j) 0
-  pub flags : (r j : ℕ) → r < n + k → j < n → slice_index_or a.flags (r * n + j) false ≡ slice_index_or b.flags (r * n + j) false
-  pub values : (r j : ℕ) → r < n + k → j < n → slice_index_or a.values (r * n + j) start ≡ slice_index_or b.values (r * n + j) start
+  pub clocks : (r j : ℕ) → r < n + k → j < n → slice_index_or a.clocks.cells.now (r * n + j) 0 ≡ slice_index_or b.clocks.cells.now (r * n + j) 0
+  pub flags : (r j : ℕ) → r < n + k → j < n → slice_index_or a.flags.cells.now (r * n + j) false ≡ slice_index_or b.flags.cells.now (r * n + j) false
+  pub values : (r j : ℕ) → r < n + k → j < n → slice_index_or a.values.cells.now (r * n + j) start ≡ slice_index_or b.values.cells.now (r * n + j) start
   pub posts : (p : ℕ) → p < k → slice_index_or a.posts p Unsent ≡ slice_index_or b.posts p Unsent
-
--- What a call on a board of n units and k messages under the measure owes.
-abbrev pub Obeys : {V : Type 0} → Meaning V → ℕ → ℕ → Call → Bool → Memory V → Memory V → Result (Answer V) Refusal → Type 0
-Obeys m n k = Follows (carrying m n) (sized m n k most_marks)
 
 -- the calls of a list that were answered with no refusal
 abbrev pub taken : {V : Type 0} → List Call → List (Result (Answer V) Refusal) → List Call
@@ -80,10 +76,10 @@ pub record LawOfBoards {V : Type 0} (m : Meaning V) (admits : V → Type 0) : Ty
   -- a board just made has been handed no call, and each call that follows the rules is one more
   pub made : (n k : ℕ) (old new : Memory V) → Makes (carrying m n) n k None old new → Played m n k [] [] new
   pub called : (n k : ℕ) (cs : List Call) (xs : List (Result (Answer V) Refusal)) (old new : Memory V) (c : Call) (x : Result (Answer V) Refusal)
-      → Played m n k cs xs old → Obeys m n k c true old new x → Played m n k (cs ++ c ∷ []) (xs ++ x ∷ []) new
+      → Played m n k cs xs old → Obeys (load m) n k c old new x → has_room n k old ≡ true → Played m n k (cs ++ c ∷ []) (xs ++ x ∷ []) new
   -- a call whose memory is too short is refused, and the board stands as it did
   pub short : (n k : ℕ) (cs : List Call) (xs : List (Result (Answer V) Refusal)) (old new : Memory V) (c : Call) (x : Result (Answer V) Refusal)
-      → Played m n k cs xs old → Obeys m n k c false old new x → (x ≡ Err MemoryTooShort) × Played m n k cs xs new
+      → Played m n k cs xs old → Obeys (load m) n k c old new x → has_room n k old ≡ false → (x ≡ Err MemoryTooShort) × Played m n k cs xs new
   -- the accepted calls are those that were answered with no refusal
   pub accepted_are : (n k : ℕ) (cs : List Call) (xs : List (Result (Answer V) Refusal)) (memory : Memory V) → Played m n k cs xs memory
       → accepted (carrying m n) (sized m n k most_marks) cs ≡ taken cs xs
@@ -95,7 +91,7 @@ pub record LawOfBoards {V : Type 0} (m : Meaning V) (admits : V → Type 0) : Ty
   -- as long as its unit does nothing more, the clocks in the row of a mark's unit are the mark's stamp
   pub stamped : (n k : ℕ) (cs : List Call) (xs : List (Result (Answer V) Refusal)) (memory : Memory V) → Played m n k cs xs memory
       → (u i l : ℕ) → accepted_events m n k most_marks cs u i ≡ Some (mark l) → length ((run (carrying m n) (sized m n k most_marks) cs).log u) ≡ suc i
-      → Stamp (accepted_events m n k most_marks cs) u i (λ v. slice_index (row memory.clocks n u) v)
+      → Stamp (accepted_events m n k most_marks cs) u i (λ v. slice_index (row memory.clocks.cells.now n u) v)
   -- each accepted send or receipt is answered the number of its unit's marks so far
   pub messages_answered : (n k : ℕ) (cs : List Call) (xs : List (Result (Answer V) Refusal)) (memory : Memory V) → Played m n k cs xs memory
       → (u i p : ℕ) → (accepted_events m n k most_marks cs u i ≡ Some (send p)) ⊎ (accepted_events m n k most_marks cs u i ≡ Some (receive p))

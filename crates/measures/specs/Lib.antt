@@ -7,7 +7,6 @@ pub mod Formats
 pub mod Judges
 pub mod Laws
 pub mod Measures
-pub mod Merging
 pub mod Refusals
 pub mod Relabellings
 pub mod Replays

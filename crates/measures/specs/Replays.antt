@@ -3,11 +3,11 @@ use Rattle.std.specs.Prelude.{◌≡◌, ℕ, List, map, take, length, min, Err,
 use Rattle.history.specs.declared.refusals.Refusal.{Refusal}
 use Rattle.history.specs.declared.refusals.Refusal.TheVariants.{MemoryTooShort}
 use Rattle.causality.specs.Boards.{Memory, SameFrom, SameBeyond}
-use Rattle.measures.specs.declared.calls.Answer as answers
-use Rattle.measures.specs.declared.calls.Call as calls
+use Rattle.causality.specs.declared.calls.Answer as answers
+use Rattle.causality.specs.declared.calls.Call as calls
 use Rattle.measures.specs.Measures.{Meaning}
 use Rattle.measures.specs.Boards.{Played}
-use Rattle.measures.specs.Calls.{handed, told}
+use Rattle.causality.specs.Handing.{handed, told}
 
 -- What a replay of a list of calls owes, on a board of n units and k messages that it has made: as many calls as there are places for
 -- answers were handed to it, in order, each with its answer in its place; and what is not the board's is as it was.

@@ -3,6 +3,7 @@ use Rattle.std.specs.Prelude.{ℕ, zero, suc, if◌then◌else◌, Some, None, O
 use Rattle.std.specs.Option.{unwrap_or}
 use Rattle.history.specs.Rows.{Cell, Payload}
 use Rattle.history.specs.Runs.{Size}
+use Rattle.causality.specs.Loads.{Load}
 use Rattle.measures.specs.Words.{letter_of}
 use Rattle.measures.specs.Measures.{Meaning, fits}
 
@@ -30,3 +31,7 @@ module _ {V : Type 0} (m : Meaning V) where
   -- the size of a board of n units and k messages under the measure, whose units can make so many marks
   abbrev pub sized : ℕ → ℕ → ℕ → Size
   sized n k limit = record { units = n; messages = k; fits = fits m; limit = limit }
+
+  -- what the cells of a board carry under the measure, and the labels that it has
+  abbrev pub load : Load V
+  load = record { start = m.start; make = worth; fits = fits m }

@@ -9,11 +9,9 @@ ghost use Rattle.measures.specs.Laws.{LawOfRuns};
 ghost use Rattle.measures.specs.Measures.{Meaning, Lawful, carried, Carries};
 
 pub mod boards;
-pub mod calls;
 pub mod counts;
 pub mod judges;
 pub mod marking;
-pub mod merging;
 pub mod patterns;
 pub mod refusals;
 pub mod relabellings;
@@ -22,12 +20,10 @@ mod sizes;
 pub mod spans;
 mod tables;
 
-pub use boards::{JudgedMark, MeasuredBoard};
-pub use calls::{Answer, Call, Event};
+pub use boards::{JudgedMark, Measured, mark_judged};
 pub use counts::FlowCount;
 pub use judges::{Judge, Verdict, verdicts};
 pub use marking::mark_value;
-pub use merging::{merge_value, merge_values};
 pub use patterns::Pattern;
 pub use refusals::{Fault, Refusal};
 pub use relabellings::Relabelling;

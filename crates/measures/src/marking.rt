@@ -1,6 +1,8 @@
 // What a mark is worth: the values of the flows that go on through it.
 ghost use Rattle.std.specs.Prelude.{◌≡◌, ℕ, ◌^◌, ◌<◌, Some};
 ghost use Rattle.measures.specs.Worths.{plus, gathered, worth};
+ghost use Rattle.history.specs.Rows.{Cell};
+ghost use Rattle.causality.specs.Loads.{Reads};
 ghost use Rattle.measures.specs.Calls.{flagged_by};
 
 use super::Measure;
@@ -31,10 +33,10 @@ fn gather<M: Measure>(m: &M, set: u64, values: &[M::Value]) -> Option<M::Value>
 }
 
 // What a mark with label l is worth, by the set of the units that have an immediate predecessor of it and the values of its unit's row
-// before it: the values of the set's members, joined in rising order, or the start if there are none, and then stepped by the label. In
-// the promise n is any number of units above all of these, and u any unit: the value depends on neither.
+// before it: the values of the set's members, joined in rising order, or the start if there are none, and then stepped by the label. It is the
+// worth of every row that has these flags and values, for any unit.
 pub fn mark_value<M: Measure>(m: &M, predecessors: u64, values: &[M::Value], l: u8) -> M::Value
-    ensures { (n u : ℕ) → predecessors < 2 ^ n → result ≡ worth (M.meaning m.now) n (flagged_by predecessors (M.meaning m.now).start values.now) u l }
+    ensures { (n : ℕ) (r : ℕ → Cell M.Value) → Reads (M.meaning m.now).start n r predecessors values.now → (u : ℕ) → result ≡ worth (M.meaning m.now) n r u l }
 {
     let gathered = gather(m, predecessors, values).unwrap_or(m.start());
     m.step(gathered, l)

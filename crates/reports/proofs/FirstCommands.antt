@@ -2,8 +2,8 @@
 use Rattle.std.proofs.Common.{◌≡◌, ℕ, List, [], ◌∷◌, Ok, Err, Result, sym, refl, subst, inl, inr}
 use Rattle.std.proofs.lemmas.Bool.{cases_eq, ne_eqb}
 use Rattle.history.specs.Runs as rules
-use Rattle.measures.specs.declared.calls.Call as handing
-use Rattle.measures.specs.Calls.{handed}
+use Rattle.causality.specs.declared.calls.Call as handing
+use Rattle.causality.specs.Handing.{handed}
 use Rattle.reports.specs.declared.commands.Command.{Command}
 use Rattle.reports.specs.declared.commands.Command.TheVariants.{Make, Call, End}
 use Rattle.reports.specs.declared.faults.Reason.{Reason}

@@ -3,13 +3,14 @@ use Rattle.std.proofs.Common.{◌≡◌, ℕ, Bool, Some, None, Ok, Err, Option,
 use Rattle.history.specs.declared.refusals.Refusal.{Refusal}
 use Rattle.history.specs.Board.{Answer}
 use Rattle.causality.specs.Boards.{Memory}
-use Rattle.causality.specs.Calls.{clock_told}
+use Rattle.causality.specs.Calls.{Obeys, clock_told}
 use Rattle.history.specs.Runs.{call}
 use Rattle.measures.specs.declared.boards.JudgedMark.{JudgedMark}
-use Rattle.measures.specs.declared.calls.Call as calls
-use Rattle.measures.specs.declared.calls.Event.{Event}
-use Rattle.measures.specs.Boards.{Obeys}
-use Rattle.measures.specs.Calls.{judged_told, event, handed}
+use Rattle.causality.specs.declared.calls.Call as calls
+use Rattle.causality.specs.declared.calls.Event.{Event}
+use Rattle.measures.specs.Worths.{load}
+use Rattle.causality.specs.Handing.{event, handed}
+use Rattle.measures.specs.Calls.{judged_told}
 use Rattle.measures.specs.Measures.{Meaning}
 use Rattle.reports.specs.declared.faults.Reason.{Reason}
 use Rattle.reports.specs.declared.faults.Reason.TheVariants.{Refused}
@@ -43,16 +44,16 @@ module _ (some all : ℕ → Bool) (u : ℕ) where
   judged_shown (Err e) s = refl
 
 -- a call was answered by the rules, and told so
-abbrev pub Handed : Meaning ℕ → ℕ → ℕ → (ℕ → Bool) → (ℕ → Bool) → Bool → Memory ℕ → Memory ℕ → calls.Call → Result (Option MarkLine) Reason → Type 0
-Handed m n k some all room old new c result = (x : Result (Answer ℕ) Refusal) × Obeys m n k (handed c) room old new x × (result ≡ shown some all c.unit x)
+abbrev pub Handed : Meaning ℕ → ℕ → ℕ → (ℕ → Bool) → (ℕ → Bool) → Memory ℕ → Memory ℕ → calls.Call → Result (Option MarkLine) Reason → Type 0
+Handed m n k some all old new c result = (x : Result (Answer ℕ) Refusal) × Obeys (load m) n k (handed c) old new x × (result ≡ shown some all c.unit x)
 
-module _ (m : Meaning ℕ) {n k : ℕ} (some all : ℕ → Bool) {room : Bool} {old new : Memory ℕ} (c : calls.Call) {e : Event} (is : c.event ≡ e) {result : Result (Option MarkLine) Reason} where
-  answered_so : (x : Result (Answer ℕ) Refusal) → Obeys m n k (call c.unit (event e)) room old new x → result ≡ shown some all c.unit x → Handed m n k some all room old new c result
-  answered_so x obeys said = (x, subst (λ (f : Event). Obeys m n k (call c.unit (event f)) room old new x) (sym is) obeys, said)
+module _ (m : Meaning ℕ) {n k : ℕ} (some all : ℕ → Bool) {old new : Memory ℕ} (c : calls.Call) {e : Event} (is : c.event ≡ e) {result : Result (Option MarkLine) Reason} where
+  answered_so : (x : Result (Answer ℕ) Refusal) → Obeys (load m) n k (call c.unit (event e)) old new x → result ≡ shown some all c.unit x → Handed m n k some all old new c result
+  answered_so x obeys said = (x, subst (λ (f : Event). Obeys (load m) n k (call c.unit (event f)) old new x) (sym is) obeys, said)
 
-  pub handed_clock : (r : Result ℕ Refusal) → Obeys m n k (call c.unit (event e)) room old new (clock_told r) → result ≡ clock_line r → Handed m n k some all room old new c result
+  pub handed_clock : (r : Result ℕ Refusal) → Obeys (load m) n k (call c.unit (event e)) old new (clock_told r) → result ≡ clock_line r → Handed m n k some all old new c result
   handed_clock r obeys told = answered_so (clock_told r) obeys (told ∙ clock_shown some all c.unit r)
 
-  pub handed_mark : (r : Result (JudgedMark ℕ) Refusal) → Obeys m n k (call c.unit (event e)) room old new (judged_told r) → Said some all c.unit r → result ≡ judged_line c.unit r
-      → Handed m n k some all room old new c result
+  pub handed_mark : (r : Result (JudgedMark ℕ) Refusal) → Obeys (load m) n k (call c.unit (event e)) old new (judged_told r) → Said some all c.unit r → result ≡ judged_line c.unit r
+      → Handed m n k some all old new c result
   handed_mark r obeys says told = answered_so (judged_told r) obeys (told ∙ judged_shown some all c.unit r says)

@@ -7,7 +7,7 @@ use Rattle.history.specs.declared.refusals.Refusal.{Refusal}
 use Rattle.history.specs.Limits.{most_units, most_messages}
 use Rattle.history.specs.Board.{State, new_state}
 use Rattle.causality.specs.Boards.{Memory, Shows, fits_board, make_refusal}
-use Rattle.measures.specs.Calls.{has_rooms}
+use Rattle.causality.specs.Calls.{lent, has_room}
 use Rattle.measures.specs.Measures.{Meaning}
 use Rattle.measures.specs.Worths.{carrying}
 use Rattle.reports.specs.declared.commands.Command.TheVariants as commands
@@ -37,13 +37,13 @@ module _ (n k : ℕ) (few_messages : k ≤ most_messages) where
 
   pub made_by_size : (clocks : Grid ℕ) (flags : Grid Bool) (values : Grid ℕ) (posts : List Post) → clocks.width ≡ n → flags.width ≡ n → values.width ≡ n
       → length clocks.cells.now ≡ most_cells → length flags.cells.now ≡ most_cells → length values.cells.now ≡ most_cells → length posts ≡ most_messages
-      → make_refusal n k (has_rooms n k clocks flags values posts) ≡ make_refusal n k true
+      → make_refusal n k (has_room n k (lent clocks flags values posts)) ≡ make_refusal n k true
   made_by_size clocks flags values posts cw fw vw cl fl vl pl = go (leb n most_units) refl
     where
-      rooms : n ≤ most_units → has_rooms n k clocks flags values posts ≡ true
+      rooms : n ≤ most_units → has_room n k (lent clocks flags values posts) ≡ true
       rooms few = rw (fits few clocks cw cl, fits few flags fw fl, fits few values vw vl, pl) (le-leb k most_messages few_messages)
 
-      go : (t : Bool) → leb n most_units ≡ t → make_refusal n k (has_rooms n k clocks flags values posts) ≡ make_refusal n k true
+      go : (t : Bool) → leb n most_units ≡ t → make_refusal n k (has_room n k (lent clocks flags values posts)) ≡ make_refusal n k true
       go true e = ap (make_refusal n k) (rooms (leb-true n most_units e))
       go false e = rw (e, and_false (leb 1 n)) refl
 

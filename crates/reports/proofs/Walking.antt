@@ -3,12 +3,12 @@ use Rattle.std.proofs.Common.{◌≡◌, ℕ, ◌+◌, Bool, true, List, [], ◌
 use Rattle.history.specs.declared.refusals.Refusal.{Refusal}
 use Rattle.history.specs.Board.{State, Answer, own_clock, marked, next}
 use Rattle.history.specs.Limits.{most_marks}
-use Rattle.causality.specs.Boards.{Memory, Shows, travelling}
-use Rattle.measures.specs.declared.calls.Call as handing
-use Rattle.measures.specs.Boards.{Obeys}
+use Rattle.causality.specs.Boards.{Memory, Shows, travelling, Follows}
+use Rattle.causality.specs.declared.calls.Call as handing
+use Rattle.causality.specs.Calls.{Obeys, has_room}
 use Rattle.measures.specs.Measures.{Meaning}
-use Rattle.measures.specs.Calls.{handed}
-use Rattle.measures.specs.Worths.{carrying, sized}
+use Rattle.causality.specs.Handing.{handed}
+use Rattle.measures.specs.Worths.{carrying, sized, load}
 use Rattle.reports.specs.declared.commands.Command.{Command}
 use Rattle.reports.specs.declared.commands.Command.TheVariants as commands
 use Rattle.reports.specs.declared.faults.Reason.{Reason}
@@ -91,10 +91,10 @@ module _ {m : Meaning ℕ} {some all : ℕ → Bool} {n k : ℕ} {s : State ℕ}
   pub second : {u v : ℕ} {more : List ℕ} → first_command rest ≡ Ok (commands.Make u v, more) → (t : Result ℕ RecordingFault) → t ≡ Err (broken SecondBoard place) → Wrote old out (on s from bytes) t
   second {u} {v} {more} is t so = ends _ t so (over (Ok (commands.Make u v, more)) is (begins rest (Ok (commands.Make u v, more)) is).0)
 
-  module _ {c : handing.Call} {more : List ℕ} (first : first_command rest ≡ Ok (commands.Call c, more)) {room : Bool} (there : room ≡ true) {new : Memory ℕ} {x : Result (Answer ℕ) Refusal}
-      (obeys : Obeys m n k (handed c) room memory new x) {t : Result (Option MarkLine) Reason} (said : t ≡ shown some all c.unit x) where
-    o : Obeys m n k (handed c) true memory new x
-    o = subst (λ (r : Bool). Obeys m n k (handed c) r memory new x) there obeys
+  module _ {c : handing.Call} {more : List ℕ} (first : first_command rest ≡ Ok (commands.Call c, more)) (there : has_room n k memory ≡ true) {new : Memory ℕ} {x : Result (Answer ℕ) Refusal}
+      (obeys : Obeys (load m) n k (handed c) memory new x) {t : Result (Option MarkLine) Reason} (said : t ≡ shown some all c.unit x) where
+    o : Follows (carrying m n) (sized m n k most_marks) (handed c) true memory new x
+    o = subst (λ (r : Bool). Follows (carrying m n) (sized m n k most_marks) (handed c) r memory new x) there obeys.follows
 
     -- and a call that is refused break the recording off.
     pub refuses : (r : Reason) → t ≡ Err r → (result : Result ℕ RecordingFault) → result ≡ Err (broken r place) → Wrote old out (on s from bytes) result

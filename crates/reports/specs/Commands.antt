@@ -3,7 +3,7 @@ use Rattle.std.specs.Prelude.{ℕ, if◌then◌else◌, List, [], ◌∷◌, Ok,
 use Rattle.history.specs.Events.{Event, send, receive, mark}
 use Rattle.history.specs.Runs as rules
 use Rattle.history.specs.Runs.{call}
-use Rattle.measures.specs.declared.calls.Event.TheVariants.{Send, Receive, Mark}
+use Rattle.causality.specs.declared.calls.Event.TheVariants.{Send, Receive, Mark}
 use Rattle.reports.specs.declared.commands.Command.{Command}
 use Rattle.reports.specs.declared.commands.Command.TheVariants.{Make, Call, End}
 use Rattle.reports.specs.declared.faults.Reason.{Reason}

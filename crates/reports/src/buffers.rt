@@ -93,15 +93,33 @@ fn put_long(bytes: &mut [u8], at: usize, n: u64) -> usize
     put_pair(bytes, at, low % 100)
 }
 
-// Puts n in decimal.
+// Puts a number of five digits in decimal.
+#[inline(always)]
+#[tactic(auto, using(std::proofs::lemmas::Fmt::decimal_digit))]
+fn put_five(bytes: &mut [u8], at: usize, n: u64) -> usize
+    requires { (10000 ≤ n) × (n < 100000) × (at + length (decimal n) ≤ length bytes.old) }
+    ensures text { take result bytes.new ≡ take at bytes.old ++ decimal n }
+    ensures end { result ≡ at + length (decimal n) }
+{
+    let (high, low) = (n / 10_000, n % 10_000);
+    let at = put_byte(bytes, at, b'0' + high as u8);
+    let at = put_pair(bytes, at, low / 100);
+    put_pair(bytes, at, low % 100)
+}
+
+// Puts n in decimal. The fewest digits are asked for first.
 #[inline(always)]
 pub(crate) fn put_decimal(bytes: &mut [u8], at: usize, n: u64) -> usize
     requires { at + 20 ≤ length bytes.old }
     ensures text { take result bytes.new ≡ take at bytes.old ++ decimal n }
     ensures short { result ≤ at + 20 }
 {
-    if n < 10_000 {
+    if n < 10 {
+        put_small(bytes, at, n)
+    } else if n < 10_000 {
         put_short(bytes, at, n)
+    } else if n < 100_000 {
+        put_five(bytes, at, n)
     } else {
         put_long(bytes, at, n)
     }

@@ -4,7 +4,7 @@ ghost use Rattle.reports.specs.Commands.{first_command as first_in};
 ghost use Rattle.reports.specs.declared.commands.Command.TheVariants.{Call as called};
 
 use super::faults::Reason;
-use measures::{Call, Event};
+use causality::{Call, Event};
 
 // A command: to make a board of so many units and messages, to hand it a call, or to end.
 #[derive(Clone, Copy, PartialEq, Eq, Debug)]

@@ -2,10 +2,10 @@
 ghost use Rattle.std.specs.Prelude.{◌≡◌, ℕ, ◌+◌, ◌*◌, ◌^◌, ◌<◌, ◌≤◌, true, length, Ok, Result};
 ghost use Rattle.history.specs.declared.refusals.Refusal.{Refusal as ghost_refusal};
 ghost use Rattle.history.specs.Board.{State, Answer};
-ghost use Rattle.grid.specs.Grids.{SameLoan};
 ghost use Rattle.causality.specs.Boards.{Shows, travelling};
-ghost use Rattle.measures.specs.Boards.{Obeys};
-ghost use Rattle.measures.specs.Calls.{lent, has_rooms, handed};
+ghost use Rattle.measures.specs.Worths.{load};
+ghost use Rattle.causality.specs.Calls.{Obeys, lent, has_room};
+ghost use Rattle.causality.specs.Handing.{handed};
 ghost use Rattle.reports.specs.Recordings.{closed, told_on, told};
 ghost use Rattle.reports.specs.Steps.{placed_at, refused_as, shown, Wrote};
 ghost use Rattle.reports.specs.declared.commands.Command.TheVariants.{End};
@@ -13,10 +13,10 @@ ghost use Rattle.reports.specs.declared.commands.Command.TheVariants.{End};
 use super::commands::{Command, first_command};
 use super::faults::{Reason, RecordingFault};
 use super::lines::{MarkLine, Page, push_mark};
-use causality::{Clock, MAX_MESSAGES, MAX_UNITS};
+use causality::{Board, Call, Clock, Event, MAX_MESSAGES, MAX_UNITS};
 use grid::Grid;
 use history::{Post, Refusal};
-use measures::{Call, Event, Judge, JudgedMark, MeasuredBoard};
+use measures::{Judge, JudgedMark, Measured, mark_judged};
 
 // The most cells of a grid: a row for each unit and for each message, with a cell for each unit.
 const MOST_CELLS: usize = (MAX_UNITS + MAX_MESSAGES) * MAX_UNITS;
@@ -51,17 +51,14 @@ fn answered<T>(told: Result<T, Refusal>) -> Result<T, Reason>
 
 // Hands one call to a board. Answers the line of a mark; the board's own `hand` has no verdict for it.
 fn hand<J: Judge<Value = u64>>(
-    board: &MeasuredBoard<J>,
+    board: &Board<Measured<J>>,
     clocks: &mut Grid<'_, Clock>,
     flags: &mut Grid<'_, bool>,
     values: &mut Grid<'_, u64>,
     posts: &mut [Post],
     call: Call,
 ) -> Result<Option<MarkLine>, Reason>
-    ensures follows { (answer : Result (Answer ℕ) ghost_refusal) × Obeys (J.Measure.meaning board.now.measure) board.now.board.units board.now.board.messages (handed call) (has_rooms board.now.board.units board.now.board.messages clocks.old flags.old values.old posts.old) (lent clocks.old flags.old values.old posts.old) (lent clocks.new flags.new values.new posts.new) answer × (result ≡ shown (J.Judge.some_of board.now.measure) (J.Judge.all_of board.now.measure) call.unit answer) }
-    ensures clocks_loan { SameLoan clocks.old clocks.new }
-    ensures flags_loan { SameLoan flags.old flags.new }
-    ensures values_loan { SameLoan values.old values.new }
+    ensures { (answer : Result (Answer ℕ) ghost_refusal) × Obeys (load (J.Measure.meaning board.now.payload.measure)) board.now.units board.now.messages (handed call) (lent clocks.old flags.old values.old posts.old) (lent clocks.new flags.new values.new posts.new) answer × (result ≡ shown (J.Judge.some_of board.now.payload.measure) (J.Judge.all_of board.now.payload.measure) call.unit answer) }
 {
     match call.event {
         Event::Send(message) => {
@@ -73,7 +70,7 @@ fn hand<J: Judge<Value = u64>>(
             Ok(None)
         }
         Event::Mark(label) => {
-            let told = board.mark_judged(clocks, flags, values, posts, call.unit, label)?;
+            let told = mark_judged(board, clocks, flags, values, posts, call.unit, label)?;
             Ok(Some(line_of_mark(call.unit, told)))
         }
     }
@@ -81,7 +78,7 @@ fn hand<J: Judge<Value = u64>>(
 
 // How a recording ends whose end stands at a byte of the input: nothing may come after it. Answers how many messages are left on their way.
 fn close<J: Judge<Value = u64>>(
-    board: &MeasuredBoard<J>,
+    board: &Board<Measured<J>>,
     clocks: &Grid<'_, Clock>,
     flags: &Grid<'_, bool>,
     values: &Grid<'_, u64>,
@@ -89,9 +86,9 @@ fn close<J: Judge<Value = u64>>(
     after: &[u8],
     place: usize,
 ) -> Result<usize, RecordingFault>
-    requires room { has_rooms board.now.board.units board.now.board.messages clocks.now flags.now values.now posts.now ≡ true }
+    requires room { has_room board.now.units board.now.messages (lent clocks.now flags.now values.now posts.now) ≡ true }
     requires place { place + 1 < 2 ^ 64 }
-    ensures { (s : State ℕ) → Shows (J.Measure.meaning board.now.measure).start board.now.board.units board.now.board.messages (lent clocks.now flags.now values.now posts.now) s → result ≡ closed (travelling s.posts board.now.board.messages) place (Ok (End, after.now)) }
+    ensures { (s : State ℕ) → Shows (J.Measure.meaning board.now.payload.measure).start board.now.units board.now.messages (lent clocks.now flags.now values.now posts.now) s → result ≡ closed (travelling s.posts board.now.messages) place (Ok (End, after.now)) }
 {
     if !after.is_empty() {
         return Err(RecordingFault {
@@ -107,7 +104,7 @@ fn close<J: Judge<Value = u64>>(
 // is written: at most 84 bytes for a mark's 3, so 28 for each byte. Answers how many messages are left on their way.
 fn follow<J: Judge<Value = u64>>(
     page: &mut Page,
-    board: &MeasuredBoard<J>,
+    board: &Board<Measured<J>>,
     clocks: &mut Grid<'_, Clock>,
     flags: &mut Grid<'_, bool>,
     values: &mut Grid<'_, u64>,
@@ -115,16 +112,16 @@ fn follow<J: Judge<Value = u64>>(
     bytes: &[u8],
     from: usize,
 ) -> Result<usize, RecordingFault>
-    requires room { has_rooms board.now.board.units board.now.board.messages clocks.old flags.old values.old posts.old ≡ true }
+    requires room { has_room board.now.units board.now.messages (lent clocks.old flags.old values.old posts.old) ≡ true }
     requires places { from + length bytes.now < 2 ^ 64 }
     requires space { length page.old.text + 28 * length bytes.now ≤ page.old.room }
-    ensures tells { (s : State ℕ) → Shows (J.Measure.meaning board.now.measure).start board.now.board.units board.now.board.messages (lent clocks.old flags.old values.old posts.old) s → Wrote page.old.text page.new.text (told_on (J.Measure.meaning board.now.measure) (J.Judge.some_of board.now.measure) (J.Judge.all_of board.now.measure) board.now.board.units board.now.board.messages s from bytes.now) result }
+    ensures tells { (s : State ℕ) → Shows (J.Measure.meaning board.now.payload.measure).start board.now.units board.now.messages (lent clocks.old flags.old values.old posts.old) s → Wrote page.old.text page.new.text (told_on (J.Measure.meaning board.now.payload.measure) (J.Judge.some_of board.now.payload.measure) (J.Judge.all_of board.now.payload.measure) board.now.units board.now.messages s from bytes.now) result }
     ensures long { length page.new.text ≤ length page.old.text + 28 * length bytes.now }
     ensures room { page.old.room ≤ page.new.room }
 {
     let mut rest = bytes;
-    let mut place = from;
     loop {
+        let place = from + (bytes.len() - rest.len());
         let (command, after) = placed(first_command(rest), place)?;
         match command {
             Command::Call(call) => {
@@ -142,7 +139,6 @@ fn follow<J: Judge<Value = u64>>(
             }
         }
         rest = after;
-        place += 3;
     }
 }
 
@@ -174,8 +170,8 @@ pub(crate) fn tell<J: Judge<Value = u64> + Drop>(
     let mut clocks = Grid::new(&mut clocks, units);
     let mut flags = Grid::new(&mut flags, units);
     let mut values = Grid::new(&mut values, units);
-    let made = MeasuredBoard::make(
-        judge,
+    let made = Board::make(
+        Measured { measure: judge },
         units,
         messages,
         &mut clocks,

@@ -4,7 +4,7 @@ use Rattle.history.specs.declared.messages.Post.TheVariants.{Unsent}
 use Rattle.history.specs.Board.{State}
 use Rattle.causality.specs.Boards.{Memory, Shows, travelling, left_answer}
 use Rattle.causality.proofs.Leaving.{travelling_same}
-use Rattle.measures.specs.Calls.{lent}
+use Rattle.causality.specs.Calls.{lent}
 use Rattle.reports.proofs.recordings.close.Goals as goal
 
 -- Of a memory that shows a state it is told how many messages are on their way in it.
@@ -15,5 +15,5 @@ left_told start n k memory room there s shows =
 pub returns : goal.returns
 returns g c s shows =
     let a = c.args in
-    let told = left_told (g.J.Measure.meaning a.board.now.measure).start a.board.now.board.units a.board.now.board.messages (lent a.clocks.now a.flags.now a.values.now a.posts.now) _ c.requires.room s shows in
+    let told = left_told (g.J.Measure.meaning a.board.now.payload.measure).start a.board.now.units a.board.now.messages (lent a.clocks.now a.flags.now a.values.now a.posts.now) _ c.requires.room s shows in
     search (told, rules)

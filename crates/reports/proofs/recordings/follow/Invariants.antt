@@ -1,23 +1,23 @@
-use Rattle.std.proofs.Common.{◌≡◌, ℕ, ◌+◌, ◌*◌, ◌≤◌, true, length}
+use Rattle.std.proofs.Common.{◌≡◌, ℕ, ◌+◌, ◌-◌, ◌*◌, ◌≤◌, true, length}
 use Rattle.history.specs.Board.{State}
 use Rattle.causality.specs.Boards.{Shows}
-use Rattle.measures.specs.Calls.{lent, has_rooms}
+use Rattle.causality.specs.Calls.{lent, has_room}
 use Rattle.reports.proofs.Walking.{Reached}
 use Rattle.reports.proofs.recordings.follow.Given as goal
 
--- the calls so far are handed over, their lines are written, and the rest begins at `place`
+-- the calls so far are handed over, their lines are written, and the rest is what they leave
 abbrev pub invariant-loop-command : goal.invariant-loop-command
 invariant-loop-command g l =
-    let m = g.J.Measure.meaning l.board.measure in
-    let some = g.J.Judge.some_of l.board.measure in
-    let all = g.J.Judge.all_of l.board.measure in
-    let n = l.board.board.units in
-    let k = l.board.board.messages in
+    let m = g.J.Measure.meaning l.board.payload.measure in
+    let some = g.J.Judge.some_of l.board.payload.measure in
+    let all = g.J.Judge.all_of l.board.payload.measure in
+    let n = l.board.units in
+    let k = l.board.messages in
     record {
-      room : has_rooms n k l.clocks l.flags l.values l.posts ≡ true;
+      room : has_room n k (lent l.clocks l.flags l.values l.posts) ≡ true;
       reached : (s : State ℕ) → Shows m.start n k (lent l.initial.clocks l.initial.flags l.initial.values l.initial.posts) s
-          → Reached m some all n k s l.from l.bytes l.initial.page.text (lent l.clocks l.flags l.values l.posts) l.page.text l.place l.rest;
-      places : l.place + length l.rest ≡ l.from + length l.bytes;
+          → Reached m some all n k s l.from l.bytes l.initial.page.text (lent l.clocks l.flags l.values l.posts) l.page.text (l.from + (length l.bytes - length l.rest)) l.rest;
+      places : length l.rest ≤ length l.bytes;
       long : length l.page.text + 28 * length l.rest ≤ length l.initial.page.text + 28 * length l.bytes;
       space : l.initial.page.room ≤ l.page.room;
     }

@@ -1,17 +1,37 @@
-use Rattle.std.proofs.Common.{false, true, arith}
-use Rattle.causality.proofs.Calling.{mark_taken}
+use Rattle.std.proofs.Common.{◌<◌, cond, eqb, false, true, refl, sym, ap, arith, rules}
+use Rattle.grid.proofs.Written.{row_same, cell_set}
+use Rattle.causality.specs.Calls.{lent}
+use Rattle.causality.proofs.Calling.{room_row}
 use Rattle.causality.proofs.Marks.{noted, flagged_row}
-use Rattle.causality.proofs.Writing.{put_cell, reset}
+use Rattle.causality.proofs.Writing.{reset_in}
 use Rattle.causality.proofs.boards.Board.mark.Goals as goal
 
-pub returns-clause-follows : goal.returns-clause-follows
-returns-clause-follows c fits l labelled =
+pub worth_in-value-requires-clause-row : goal.worth_in-value-requires-clause-row
+worth_in-value-requires-clause-row g c =
     let a = c.args in
+    let (r, fit, is, below) = c.in_ok-own.ensures in
+    room_row r.values a.unit (omega (arith, r.unit))
+
+pub returns : goal.returns
+returns g c =
+    let a = c.args in
+    let load = g.P.Payload.load a.self.now.payload in
     let n = a.self.now.units in
     let k = a.self.now.messages in
-    let (r, below) = mark_taken n k a.clocks.now a.flags.now a.posts.now a.unit c.in_ok-own.ensures.answer.0 in
-    noted n k a.unit l fits labelled a.clocks.now a.flags.now a.posts.now r below _ _ _ _
-    (put_cell r.of_clocks 0 _ c.set_cell.result a.unit a.unit _ (omega (arith, r.unit)) r.unit (assumption c.set_cell.ensures) (assumption c.set_cell.ensures))
-    (reset r.of_flags c.fill_row.ensures.loan false false true _ c.fill_row.result c.set_cell-2.result a.unit a.unit (omega (arith, r.unit)) r.unit (assumption c.fill_row.ensures) (assumption c.fill_row.ensures) (assumption c.set_cell-2.ensures) (assumption c.set_cell-2.ensures))
-    (let own = c.in_ok-own.ensures.answer.1 in omega arith)
-    (flagged_row r.of_flags (omega arith) a.unit (omega (arith, r.unit)) _ (assumption c.flagged-predecessors.ensures))
+    let u = a.unit in
+    let old = lent a.clocks.now a.flags.now a.values.now a.posts.now in
+    let (r, fit, is, below) = c.in_ok-own.ensures in
+    let hu : u < n = r.unit in
+    record {
+      follows = noted load n k u a.label fit old _ r (rw (sym is) below) _ _ _
+          (cell_set n u 0 a.clocks.now.cells.now (room_row r.clocks u (omega arith)) u _ _ hu refl)
+          (reset_in r.flags false false true _ _ u u (omega arith) hu c.take_flags-predecessors.ensures.cells refl)
+          (row_same
+          (reset_in r.values load.start c.start.result _ _ _ u u (omega arith) hu c.reset_row.ensures refl)
+          (λ j. cond (eqb j u) c.worth_in-value.result load.start) (λ j h. ap (cond (eqb j u) c.worth_in-value.result) c.start.ensures))
+          refl
+          (omega (arith, is))
+          (flagged_row r.flags (omega (arith, a.self.now.few_units)) u (omega arith) _ c.take_flags-predecessors.ensures.units)
+          (λ t reads. c.worth_in-value.ensures n t reads);
+      loans = search rules;
+    }

@@ -1,17 +1,47 @@
-use Rattle.std.proofs.Common.{◌+◌, arith}
-use Rattle.history.specs.declared.messages.Handling.TheVariants.{Receiving}
-use Rattle.causality.proofs.Calling.{handling_taken}
-use Rattle.causality.proofs.Receiving.{received}
-use Rattle.causality.proofs.Writing.{clocks_merged, flags_merged}
+use Rattle.std.proofs.Common.{◌+◌, false, refl, arith, rules}
+use Rattle.causality.specs.Calls.{lent}
+use Rattle.causality.proofs.Receiving.{received, rows}
+use Rattle.causality.proofs.Writing.{row_merged, rows_within}
 use Rattle.causality.proofs.boards.Board.receive.Goals as goal
 
-pub returns-clause-follows : goal.returns-clause-follows
-returns-clause-follows c fits =
+pub merge_rows-requires-clause-clocks : goal.merge_rows-requires-clause-clocks
+merge_rows-requires-clause-clocks g c =
     let a = c.args in
+    let (r, m, was) = c.in_ok-post.ensures in
+    rows_within r.clocks (a.self.now.units + a.message) a.unit (omega arith) (omega (arith, r.unit))
+
+pub merge_rows-requires-clause-flags : goal.merge_rows-requires-clause-flags
+merge_rows-requires-clause-flags g c =
+    let a = c.args in
+    let (r, m, was) = c.in_ok-post.ensures in
+    rows_within r.flags (a.self.now.units + a.message) a.unit (omega arith) (omega (arith, r.unit))
+
+pub merge_rows-requires-clause-values : goal.merge_rows-requires-clause-values
+merge_rows-requires-clause-values g c =
+    let a = c.args in
+    let (r, m, was) = c.in_ok-post.ensures in
+    rows_within r.values (a.self.now.units + a.message) a.unit (omega arith) (omega (arith, r.unit))
+
+pub returns : goal.returns
+returns g c =
+    let a = c.args in
+    let load = g.P.Payload.load a.self.now.payload in
     let n = a.self.now.units in
     let k = a.self.now.messages in
-    let (r, m) = handling_taken n k a.clocks.now a.flags.now a.posts.now a.unit a.message Receiving c.in_ok-post.ensures.0 in
-    received n k a.unit a.message fits a.clocks.now a.flags.now a.posts.now r m _ _ _ _ (assumption c.in_ok-post.ensures)
-    (clocks_merged r.of_clocks r.of_flags (n + a.message) a.unit (omega arith) (omega (arith, r.unit)) c.merge_rows.result (assumption c.merge_rows.ensures) _ (assumption c.merge_rows.ensures))
-    (flags_merged r.of_clocks r.of_flags (n + a.message) a.unit (omega arith) (omega (arith, r.unit)) c.merge_rows.result (assumption c.merge_rows.ensures) _ (assumption c.merge_rows.ensures))
-    (assumption c.own_clock.ensures)
+    let old = lent a.clocks.now a.flags.now a.values.now a.posts.now in
+    let (r, m, was) = c.in_ok-post.ensures in
+    let cs = a.clocks.now.cells.now in
+    let fs = a.flags.now.cells.now in
+    let vs = a.values.now.cells.now in
+    let w = c.merge_rows.ensures in
+    let t = rows n a.unit a.message in
+    let start = c.start.result in
+    record {
+      follows = received load n k a.unit a.message old _ r m _ _ was
+          (row_merged r.clocks 0 load.start start c.start.ensures cs fs vs t (λ x. x.clock) _ refl (omega (arith, r.unit)) w.clocks)
+          (row_merged r.flags false load.start start c.start.ensures cs fs vs t (λ x. x.flag) _ refl (omega (arith, r.unit)) w.flags)
+          (row_merged r.values load.start load.start start c.start.ensures cs fs vs t (λ x. x.value) _ refl (omega (arith, r.unit)) w.values)
+          refl
+          (assumption c.own_clock.ensures);
+      loans = search rules;
+    }
