@@ -4,10 +4,10 @@ use Rattle.std.proofs.lemmas.Bool.Decides.{nat_tests}
 use Rattle.grid.specs.declared.Grid.{Grid}
 use Rattle.grid.specs.Grids.{has_row}
 use Rattle.grid.proofs.Cells.{row_fits}
-use Rattle.causality.specs.Boards.{Memory, fits_board}
-use Rattle.causality.specs.Calls.{Room, Ready, has_room}
+use Rattle.causality.specs.Boards.{Memory, has_all_rows, has_room}
+use Rattle.causality.specs.Calls.{Room, Ready}
 
-pub room_of : {X : Type 0} (n k : ℕ) (g : Grid X) → fits_board n k g ≡ true → Room n k g
+pub room_of : {X : Type 0} (n k : ℕ) (g : Grid X) → has_all_rows n k g ≡ true → Room n k g
 room_of n k g e = record { width = grind (arith, nat_tests); cells = grind (arith, nat_tests) }
 
 -- every row of the board lies within the cells

@@ -1,11 +1,13 @@
 -- Three ways to follow the rules: a call that is taken, one that is refused, and one that its memory is too short for.
-use Rattle.std.proofs.Common.{◌≡◌, ℕ, true, false, Some, None, Ok, Err, sym, refl, ap, ◌∙◌, subst}
+use Rattle.std.proofs.Common.{◌≡◌, ℕ, true, false, Some, None, Ok, Err, sym, refl, ap, ◌∙◌, subst, subst₂, Result}
 use Rattle.history.specs.declared.refusals.Refusal.{Refusal}
 use Rattle.history.specs.declared.refusals.Refusal.TheVariants.{MemoryTooShort}
 use Rattle.history.specs.Rows.{Payload}
-use Rattle.history.specs.Runs.{Size, Call}
-use Rattle.history.specs.Board.{State, Answer, refusal, acted, answer_to, next, outcome}
-use Rattle.causality.specs.Boards.{Memory, Shows, SameBeyond, Follows}
+use Rattle.history.specs.Runs.{Size}
+use Rattle.history.specs.declared.calls.Call.{Call}
+use Rattle.history.specs.Board.{State, refusal, acted, answer_to, next, outcome}
+use Rattle.history.specs.declared.calls.Answer.{Answer}
+use Rattle.causality.specs.Boards.{Memory, Obeys, Setup, Shows, SameBeyond, Follows}
 
 -- memory that nothing wrote
 pub nothing_written : {V : Type 0} (start : V) (n k : ℕ) (a : Memory V) → SameBeyond start n k a a
@@ -17,18 +19,18 @@ nothing_written start n k a = record {
 }
 
 module _ {V : Type 0} (M : Payload V) (z : Size) where
-  module _ (s : State V) (c : Call) (e : refusal M z s c.unit c.act ≡ None) where
-    pub taken_outcome : outcome M z s c ≡ Ok (answer_to M z c.unit c.act (s.rows c.unit) ((acted M z s c.unit c.act).rows c.unit))
+  module _ (s : State V) (c : Call) (e : refusal M z s c.unit c.event ≡ None) where
+    pub taken_outcome : outcome M z s c ≡ Ok (answer_to M z c.unit c.event (s.rows c.unit) ((acted M z s c.unit c.event).rows c.unit))
     taken_outcome = rw e refl
 
-    pub taken_next : next M z s c ≡ acted M z s c.unit c.act
+    pub taken_next : next M z s c ≡ acted M z s c.unit c.event
     taken_next = rw e refl
 
   module _ (c : Call) (old new : Memory V) where
     -- It is taken in each state that the memory shows, leaves memory that shows the state after it, and tells the rule's answer.
-    pub taken_follows : (a : Answer V) → ((s : State V) → Shows M.start z.units z.messages old s → refusal M z s c.unit c.act ≡ None)
-        → ((s : State V) → Shows M.start z.units z.messages old s → Shows M.start z.units z.messages new (acted M z s c.unit c.act))
-        → ((s : State V) → Shows M.start z.units z.messages old s → a ≡ answer_to M z c.unit c.act (s.rows c.unit) ((acted M z s c.unit c.act).rows c.unit))
+    pub taken_follows : (a : Answer V) → ((s : State V) → Shows M.start z.units z.messages old s → refusal M z s c.unit c.event ≡ None)
+        → ((s : State V) → Shows M.start z.units z.messages old s → Shows M.start z.units z.messages new (acted M z s c.unit c.event))
+        → ((s : State V) → Shows M.start z.units z.messages old s → a ≡ answer_to M z c.unit c.event (s.rows c.unit) ((acted M z s c.unit c.event).rows c.unit))
         → SameBeyond M.start z.units z.messages old new → Follows M z c true old new (Ok a)
     taken_follows a taken shown told beyond = record {
       answer = λ s sh. ap Ok (told s sh) ∙ sym (taken_outcome s c (taken s sh));
@@ -44,7 +46,7 @@ module _ {V : Type 0} (M : Payload V) (z : Size) where
     kept_beyond same = subst (SameBeyond M.start z.units z.messages old) (sym same) (nothing_written M.start z.units z.messages old)
 
     -- It is refused for e in each state that the memory shows, and leaves the memory.
-    pub refused_follows : (e : Refusal) → ((s : State V) → Shows M.start z.units z.messages old s → refusal M z s c.unit c.act ≡ Some e) → new ≡ old → Follows M z c true old new (Err e)
+    pub refused_follows : (e : Refusal) → ((s : State V) → Shows M.start z.units z.messages old s → refusal M z s c.unit c.event ≡ Some e) → new ≡ old → Follows M z c true old new (Err e)
     refused_follows e why same = record {
       answer = λ s sh. rw (why s sh) refl;
       state = λ s sh. rw (why s sh) (kept same s sh);
@@ -60,3 +62,7 @@ module _ {V : Type 0} (M : Payload V) (z : Size) where
       beyond = kept_beyond same;
       refused = λ r x. same;
     }
+
+-- what a call owes is owed by the same call, by its parts, with the same answer
+pub obeys_same : {V : Type 0} {b : Setup V} {old new : Memory V} {c d : Call} {x y : Result (Answer V) Refusal} → c ≡ d → x ≡ y → Obeys b c old new x → Obeys b d old new y
+obeys_same {b = b} {old = old} {new = new} e f o = subst₂ (λ c x. Obeys b c old new x) e f o

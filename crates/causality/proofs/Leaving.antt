@@ -3,30 +3,30 @@ use Rattle.std.proofs.Common.{◌≡◌, ℕ, zero, suc, ◌+◌, ◌*◌, false
 use Rattle.std.specs.Prelude.{count_by}
 use Rattle.std.proofs.lemmas.List.Sums.{count_by_more_no, count_by_more_yes}
 use Rattle.history.specs.declared.messages.Post.{Post}
-use Rattle.history.specs.declared.messages.Post.TheVariants.{Unsent}
-use Rattle.history.specs.Messages.{travels}
-use Rattle.causality.specs.Boards.{EachShows, travelling}
+use Rattle.history.specs.Messages.{unsent, travels}
+use Rattle.causality.specs.Boards.{EachShows}
+use Rattle.history.specs.Counting.{count_below}
 
--- only the states of the messages below k count
-pub travelling_same : (f g : ℕ → Post) (k : ℕ) → ((m : ℕ) → m < k → f m ≡ g m) → travelling f k ≡ travelling g k
-travelling_same f g zero e = refl
-travelling_same f g (suc k) e =
-    ap₂ (λ (t : ℕ) (p : Post). t + (if travels p then 1 else 0)) (travelling_same f g k (λ m h. e m (omega arith))) (e k (omega arith))
+-- only what the test says of the numbers below n counts
+pub count_below_same : (f g : ℕ → Bool) (n : ℕ) → ((m : ℕ) → m < n → f m ≡ g m) → count_below f n ≡ count_below g n
+count_below_same f g zero e = refl
+count_below_same f g (suc n) e =
+    ap₂ (λ (t : ℕ) (b : Bool). t + (if b then 1 else 0)) (count_below_same f g n (λ m h. e m (omega arith))) (e n (omega arith))
 
 -- the count over the first k
-travelling_take : (posts : List Post) (k : ℕ) → k ≤ length posts → count_by travels (take k posts) ≡ travelling (λ m. get_or posts m Unsent) k
+travelling_take : (posts : List Post) (k : ℕ) → k ≤ length posts → count_by travels (take k posts) ≡ count_below (λ m. travels (get_or posts m unsent)) k
 travelling_take posts zero h = refl
-travelling_take posts (suc k) h = one (travels (get_or posts k Unsent)) refl (travelling_take posts k (omega arith))
+travelling_take posts (suc k) h = one (travels (get_or posts k unsent)) refl (travelling_take posts k (omega arith))
   where
-    one : (b : Bool) → travels (get_or posts k Unsent) ≡ b → count_by travels (take k posts) ≡ travelling (λ m. get_or posts m Unsent) k
-        → count_by travels (take (suc k) posts) ≡ travelling (λ m. get_or posts m Unsent) k + (if b then 1 else 0)
+    one : (b : Bool) → travels (get_or posts k unsent) ≡ b → count_by travels (take k posts) ≡ count_below (λ m. travels (get_or posts m unsent)) k
+        → count_by travels (take (suc k) posts) ≡ count_below (λ m. travels (get_or posts m unsent)) k + (if b then 1 else 0)
     one true e before =
         ap (λ (i : ℕ). count_by travels (take i posts)) (sym (add-one k))
-        ∙ count_by_more_yes travels posts k Unsent (omega arith) e
+        ∙ count_by_more_yes travels posts k unsent (omega arith) e
         ∙ ap (λ (t : ℕ). t + 1) before
-    one false e before = ap (λ (i : ℕ). count_by travels (take i posts)) (sym (add-one k)) ∙ count_by_more_no travels posts k Unsent (omega arith) e ∙ before ∙ sym (add-zero _)
+    one false e before = ap (λ (i : ℕ). count_by travels (take i posts)) (sym (add-one k)) ∙ count_by_more_no travels posts k unsent (omega arith) e ∙ before ∙ sym (add-zero _)
 
-pub travelling_front : (posts : List Post) (k count : ℕ) → k ≤ length posts → count ≡ count_by travels (take k posts) → count ≡ travelling (λ m. get_or posts m Unsent) k
+pub travelling_front : (posts : List Post) (k count : ℕ) → k ≤ length posts → count ≡ count_by travels (take k posts) → count ≡ count_below (λ m. travels (get_or posts m unsent)) k
 travelling_front posts k count h e = e ∙ travelling_take posts k h
 
 pub each_shows : {V : Type 0} (start : V) (n k : ℕ) → EachShows start n k
@@ -34,7 +34,7 @@ each_shows start n k memory = (
   record {
     rows = λ u j. record { clock = get_or memory.clocks.cells.now (u * n + j) 0; flag = get_or memory.flags.cells.now (u * n + j) false; value = get_or memory.values.cells.now (u * n + j) start };
     message_rows = λ m j. record { clock = get_or memory.clocks.cells.now ((n + m) * n + j) 0; flag = get_or memory.flags.cells.now ((n + m) * n + j) false; value = get_or memory.values.cells.now ((n + m) * n + j) start };
-    posts = λ m. get_or memory.posts m Unsent;
+    posts = λ m. get_or memory.posts m unsent;
   },
   record {
     clocks = record { rows = λ u j hu hj. refl; message_rows = λ m j hm hj. refl };

@@ -6,14 +6,14 @@ use Rattle.std.proofs.lemmas.List.{places}
 use Rattle.grid.specs.declared.Grid.{Grid}
 use Rattle.grid.specs.Grids.{has_first_rows}
 use Rattle.grid.proofs.Cells.{row_fits}
-use Rattle.history.specs.declared.messages.Post.TheVariants.{Unsent}
+use Rattle.history.specs.Messages.{unsent}
 use Rattle.history.specs.declared.refusals.Refusal.{Refusal}
-use Rattle.history.specs.Rows.{Cell, Payload}
+use Rattle.history.specs.Rows.{Payload}
+use Rattle.history.specs.declared.cells.Cell.{Cell}
 use Rattle.history.specs.Board.{new_state}
-use Rattle.causality.specs.Boards.{Memory, Holds, SameFrom, Makes, make_refusal}
-use Rattle.causality.specs.Calls.{has_room, size_refusal}
-use Rattle.causality.specs.Loads.{Load, carrying}
+use Rattle.causality.specs.Boards.{Memory, Holds, SameFrom, Makes, make_refusal, has_room}
 use Rattle.causality.specs.Calls.{Room}
+use Rattle.causality.specs.Payloads.{payload_on, PayloadRules}
 
 -- no call is both taken and refused
 pub not_both : {o : Option Refusal} {e : Refusal} → o ≡ None → o ≡ Some e → ⊥
@@ -52,20 +52,20 @@ pub filled_beyond : {X : Type 0} {count : ℕ} {x other : X} {old new : List X} 
 filled_beyond f = record { same_length = f.same_length; rest = f.outside }
 
 -- A making that is taken, of grids and message states that were filled.
-module _ {V : Type 0} (load : Load V) (n k : ℕ) (old : Memory V) (new : Memory V) (taken : make_refusal n k (has_room n k old) ≡ None)
+module _ {V : Type 0} (rules : PayloadRules V) (n k : ℕ) (old : Memory V) (new : Memory V) (taken : make_refusal n k (has_room n k old) ≡ None)
     (wc : Filled ((n + k) * n) 0 0 old.clocks.cells.now new.clocks.cells.now) (wf : Filled ((n + k) * n) false false old.flags.cells.now new.flags.cells.now)
-    (wv : Filled ((n + k) * n) load.start load.start old.values.cells.now new.values.cells.now) (wp : Filled k Unsent Unsent old.posts new.posts) where
-  pub made : Makes (carrying load n) n k (make_refusal n k (has_room n k old)) old new
+    (wv : Filled ((n + k) * n) rules.start rules.start old.values.cells.now new.values.cells.now) (wp : Filled k unsent unsent old.posts new.posts) where
+  pub made : Makes (payload_on rules n) n k (make_refusal n k (has_room n k old)) old new
   made = record {
     state = λ x. record {
-      clocks = holds_new (carrying load n) (λ c. c.clock) 0 n k wc;
-      flags = holds_new (carrying load n) (λ c. c.flag) false n k wf;
-      values = holds_new (carrying load n) (λ c. c.value) load.start n k wv;
+      clocks = holds_new (payload_on rules n) (λ c. c.clock) 0 n k wc;
+      flags = holds_new (payload_on rules n) (λ c. c.flag) false n k wf;
+      values = holds_new (payload_on rules n) (λ c. c.value) rules.start n k wv;
       posts = wp.here;
     };
     beyond = record { clocks = filled_beyond wc; flags = filled_beyond wf; values = filled_beyond wv; posts = filled_beyond wp };
     refused = λ e x. absurd (not_both taken x);
   }
 
-pub make_taken : (n k : ℕ) (room : Bool) → size_refusal n k ≡ None → room ≡ true → make_refusal n k room ≡ None
+pub make_taken : (n k : ℕ) (room : Bool) → make_refusal n k true ≡ None → room ≡ true → make_refusal n k room ≡ None
 make_taken n k room e f = grind (arith, nat_tests)

@@ -5,17 +5,17 @@ use Rattle.grid.specs.declared.RowPair.{RowPair}
 use Rattle.grid.proofs.Written.{RowIs, row_same}
 use Rattle.history.specs.declared.messages.Handling.TheVariants.{Receiving}
 use Rattle.history.specs.declared.messages.Post.{Post}
-use Rattle.history.specs.declared.messages.Post.TheVariants.{Unsent}
-use Rattle.history.specs.Events.{receive}
-use Rattle.history.specs.Messages.{moved}
-use Rattle.history.specs.Rows.{Cell, merged_cell, merge_row}
-use Rattle.history.specs.Board.{State, own_clock, refusal, acted}
+use Rattle.history.specs.Messages.{unsent, moved}
+use Rattle.history.specs.declared.calls.Event.TheVariants.{Receive}
+use Rattle.history.specs.declared.calls.Answer.TheVariants.{Received}
+use Rattle.history.specs.Rows.{merged_cell, merge_row}
+use Rattle.history.specs.declared.cells.Cell.{Cell}
+use Rattle.history.specs.Board.{State, refusal, acted}
 use Rattle.history.specs.Runs.{call}
-use Rattle.causality.specs.Boards.{Memory, Shows, Follows}
-use Rattle.causality.specs.Calls.{has_room}
-use Rattle.causality.specs.Loads.{Load, carrying, sized}
-use Rattle.causality.specs.Merging.{merged}
+use Rattle.causality.specs.Boards.{Memory, Shows, Follows, has_room}
 use Rattle.causality.specs.Calls.{Ready}
+use Rattle.causality.specs.Payloads.{size_on, payload_on, PayloadRules}
+use Rattle.causality.specs.Merging.{merged_row}
 use Rattle.causality.proofs.Following.{taken_follows}
 use Rattle.causality.proofs.Merges.{cell_same}
 use Rattle.causality.proofs.Showing.{same_from, holds_unit, post_set, post_beyond}
@@ -25,44 +25,44 @@ abbrev pub rows : ℕ → ℕ → ℕ → RowPair
 rows n u m = record { width = n; from = n + m; to = u }
 
 -- A receipt into row u, by a board that has asked its questions.
-module _ {V : Type 0} (load : Load V) (n k u m : ℕ) (old : Memory V) (new : Memory V) (r : Ready n k old u) (hm : m < k) where
+module _ {V : Type 0} (rules : PayloadRules V) (n k u m : ℕ) (old : Memory V) (new : Memory V) (r : Ready n k old u) (hm : m < k) where
   -- what the rows merge to
   abbrev pub heard : ℕ → Cell V
-  heard = merged load.start old.clocks.cells.now old.flags.cells.now old.values.cells.now (rows n u m)
+  heard = merged_row rules.start old.clocks.cells.now old.flags.cells.now old.values.cells.now (rows n u m)
 
-  module _ (post : Post) (own : ℕ) (was : moved (get_or old.posts m Unsent) Receiving ≡ Ok post)
+  module _ (post : Post) (own : ℕ) (was : moved (get_or old.posts m unsent) Receiving ≡ Ok post)
       (wc : RowIs n u 0 (λ j. (heard j).clock) old.clocks.cells.now new.clocks.cells.now)
       (wf : RowIs n u false (λ j. (heard j).flag) old.flags.cells.now new.flags.cells.now)
-      (wv : RowIs n u load.start (λ j. (heard j).value) old.values.cells.now new.values.cells.now)
+      (wv : RowIs n u rules.start (λ j. (heard j).value) old.values.cells.now new.values.cells.now)
       (wp : new.posts ≡ set old.posts m post) (is : own ≡ get_or new.clocks.cells.now (u * n + u) 0) where
-    module _ (s : State V) (sh : Shows load.start n k old s) where
-      not_refused : refusal (carrying load n) (sized load n k) s u (receive m) ≡ None
+    module _ (s : State V) (sh : Shows rules.start n k old s) where
+      not_refused : refusal (payload_on rules n) (size_on rules n k) s u (Receive m) ≡ None
       not_refused = let p = sh.posts m hm in let h = r.unit in grind (arith, nat_tests)
 
-      merged_is : (j : ℕ) → j < n → heard j ≡ merge_row load.start (s.rows u) (s.message_rows m) j
+      merged_is : (j : ℕ) → j < n → heard j ≡ merge_row rules.start (s.rows u) (s.message_rows m) j
       merged_is j l =
-          ap₂ (merged_cell load.start)
+          ap₂ (merged_cell rules.start)
           (cell_same (sh.clocks.rows u j r.unit l) (sh.flags.rows u j r.unit l) (sh.values.rows u j r.unit l))
           (cell_same (sh.clocks.message_rows m j hm l) (sh.flags.message_rows m j hm l) (sh.values.message_rows m j hm l))
 
-      shown : Shows load.start n k new (acted (carrying load n) (sized load n k) s u (receive m))
+      shown : Shows rules.start n k new (acted (payload_on rules n) (size_on rules n k) s u (Receive m))
       shown = record {
         clocks = holds_unit (λ c. c.clock) 0 n k s sh.clocks _ u _ r.unit (row_same wc _ (λ j l. ap (λ (c : Cell V). c.clock) (merged_is j l)));
         flags = holds_unit (λ c. c.flag) false n k s sh.flags _ u _ r.unit (row_same wf _ (λ j l. ap (λ (c : Cell V). c.flag) (merged_is j l)));
-        values = holds_unit (λ c. c.value) load.start n k s sh.values _ u _ r.unit (row_same wv _ (λ j l. ap (λ (c : Cell V). c.value) (merged_is j l)));
+        values = holds_unit (λ c. c.value) rules.start n k s sh.values _ u _ r.unit (row_same wv _ (λ j l. ap (λ (c : Cell V). c.value) (merged_is j l)));
         posts = post_set k m old.posts new.posts _ (wp ∙ rw (sym (sh.posts m hm), was) refl) hm s.posts r.posts sh.posts;
       }
 
-      own_is : own ≡ ((acted (carrying load n) (sized load n k) s u (receive m)).rows u u).clock
+      own_is : own ≡ ((acted (payload_on rules n) (size_on rules n k) s u (Receive m)).rows u u).clock
       own_is = is ∙ shown.clocks.rows u u r.unit r.unit
 
-    pub received : Follows (carrying load n) (sized load n k) (call u (receive m)) (has_room n k old) old new (Ok (own_clock own))
+    pub received : Follows (payload_on rules n) (size_on rules n k) (call u (Receive m)) (has_room n k old) old new (Ok (Received own))
     received =
         rw r.room
-        (taken_follows (carrying load n) (sized load n k) (call u (receive m)) old new (own_clock own) not_refused shown (λ s sh. ap own_clock (own_is s sh))
+        (taken_follows (payload_on rules n) (size_on rules n k) (call u (Receive m)) old new (Received own) not_refused shown (λ s sh. ap Received (own_is s sh))
         (record {
           clocks = same_from n k u 0 wc (omega (arith, r.unit));
           flags = same_from n k u false wf (omega (arith, r.unit));
-          values = same_from n k u load.start wv (omega (arith, r.unit));
+          values = same_from n k u rules.start wv (omega (arith, r.unit));
           posts = post_beyond k m old.posts new.posts post wp hm;
         }))

@@ -1,14 +1,14 @@
 -- Writing a row of a grid rewrites a row of the state that the grid holds.
 use Rattle.std.proofs.Common.{◌≡◌, ℕ, ◌+◌, ◌*◌, ◌<◌, ◌≤◌, List, length, get_or, set, sym, ap, ◌∙◌, refl, inl, inr, arith}
-use Rattle.std.proofs.lemmas.Grind.{common_steps}
+use Rattle.std.proofs.lemmas.Grind.{common_steps, get_or-set_at}
 use Rattle.std.proofs.lemmas.List.{get_or-set_other}
-use Rattle.std.proofs.lemmas.Grind.{get_or-set_at}
 use Rattle.grid.proofs.Cells.{row_fits}
 use Rattle.grid.proofs.Written.{RowIs, other_row}
 use Rattle.history.specs.declared.messages.Post.{Post}
-use Rattle.history.specs.declared.messages.Post.TheVariants.{Unsent}
+use Rattle.history.specs.Messages.{unsent}
 use Rattle.history.specs.Board.{State}
-use Rattle.history.specs.Rows.{Cell, put}
+use Rattle.history.specs.Rows.{put}
+use Rattle.history.specs.declared.cells.Cell.{Cell}
 use Rattle.history.proofs.Logs.{put_cases}
 use Rattle.causality.specs.Boards.{Holds, SameFrom}
 
@@ -44,11 +44,11 @@ module _ {V X : Type 0} (part : Cell V → X) (d : X) (n k : ℕ) {old new : Lis
 
 -- the state of one message
 module _ (k m : ℕ) (old new : List Post) (x : Post) (e : new ≡ set old m x) (hm : m < k) where
-  pub post_set : (f : ℕ → Post) → k ≤ length old → ((p : ℕ) → p < k → get_or old p Unsent ≡ f p) → (p : ℕ) → p < k → get_or new p Unsent ≡ put f m x p
+  pub post_set : (f : ℕ → Post) → k ≤ length old → ((p : ℕ) → p < k → get_or old p unsent ≡ f p) → (p : ℕ) → p < k → get_or new p unsent ≡ put f m x p
   post_set f long h p hp = rw e (elim (put_cases f m x p) [
-    | inl (i, q) ↦ get_or-set_at old m p x Unsent i (omega arith) ∙ sym q
-    | inr (ne, q) ↦ get_or-set_other old m p x Unsent ne ∙ h p hp ∙ sym q
+    | inl (i, q) ↦ get_or-set_at old m p x unsent i (omega arith) ∙ sym q
+    | inr (ne, q) ↦ get_or-set_other old m p x unsent ne ∙ h p hp ∙ sym q
   ])
 
-  pub post_beyond : SameFrom Unsent k old new
-  post_beyond = rw e (record { same_length = grind (arith, common_steps); rest = λ i l. get_or-set_other old m i x Unsent (λ q. omega arith) })
+  pub post_beyond : SameFrom unsent k old new
+  post_beyond = rw e (record { same_length = grind (arith, common_steps); rest = λ i l. get_or-set_other old m i x unsent (λ q. omega arith) })

@@ -6,8 +6,8 @@ use Rattle.grid.specs.declared.RowPair.{RowPair}
 use Rattle.grid.specs.Grids.{has_row, has_rows, with_cells, LieWithin, SameLoan}
 use Rattle.grid.specs.Rows.{row, with_row}
 use Rattle.grid.proofs.Written.{RowIs, copied_row, filled_row, cell_set, tabled_row, row_same, twice}
-use Rattle.history.specs.Rows.{Cell}
-use Rattle.causality.specs.Merging.{merged}
+use Rattle.history.specs.declared.cells.Cell.{Cell}
+use Rattle.causality.specs.Merging.{merged_row}
 use Rattle.causality.proofs.Calling.{room_row, room_there}
 use Rattle.causality.specs.Calls.{Room}
 
@@ -51,12 +51,12 @@ reset_in {n = n} {g = g} r d v w mid new t u h hu first second =
 
 -- a row of the board that a merge wrote, with the start
 pub row_merged : {V X : Type 0} {n k : ℕ} {g : Grid X} → Room n k g → (d : X) (start first : V) → first ≡ start → (cs : List ℕ) (fs : List Bool) (vs : List V) (rows : RowPair) (part : Cell V → X) (new : List X)
-    → rows.width ≡ n → rows.to < n + k → new ≡ with_cells g.cells.now rows (λ j. part (merged first cs fs vs rows j)) rows.width
-    → RowIs n rows.to d (λ j. part (merged start cs fs vs rows j)) g.cells.now new
+    → rows.width ≡ n → rows.to < n + k → new ≡ with_cells g.cells.now rows (λ j. part (merged_row first cs fs vs rows j)) rows.width
+    → RowIs n rows.to d (λ j. part (merged_row start cs fs vs rows j)) g.cells.now new
 row_merged {n = n} {g = g} r d start first starts cs fs vs rows part new e h is =
-    let given : new ≡ with_cells g.cells.now rows (λ j. part (merged start cs fs vs rows j)) rows.width = is ∙ ap (λ v. with_cells g.cells.now rows (λ j. part (merged v cs fs vs rows j)) rows.width) starts in
-    subst (λ (w : ℕ). RowIs w rows.to d (λ j. part (merged start cs fs vs rows j)) g.cells.now new) e
-    (tabled_row rows.width rows.to d g.cells.now (rw e (room_row r rows.to h)) (λ j. part (merged start cs fs vs rows j)) new given)
+    let given : new ≡ with_cells g.cells.now rows (λ j. part (merged_row start cs fs vs rows j)) rows.width = is ∙ ap (λ v. with_cells g.cells.now rows (λ j. part (merged_row v cs fs vs rows j)) rows.width) starts in
+    subst (λ (w : ℕ). RowIs w rows.to d (λ j. part (merged_row start cs fs vs rows j)) g.cells.now new) e
+    (tabled_row rows.width rows.to d g.cells.now (rw e (room_row r rows.to h)) (λ j. part (merged_row start cs fs vs rows j)) new given)
 
 -- the rows of a merge lie within a grid of the board
 pub rows_within : {X : Type 0} {n k : ℕ} {g : Grid X} → Room n k g → (from to : ℕ) → from < n + k → to < n + k → LieWithin (record { width = n; from = from; to = to }) (length g.cells.now)

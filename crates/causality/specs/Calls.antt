@@ -1,54 +1,22 @@
--- What the contracts of the calls speak of: the questions of `refusal` in `history/specs/Board`, read off memory, and what is answered, as the
--- rules speak of it.
-use Rattle.std.specs.Prelude.{◌≡◌, ◌<◌, ◌≤◌, ℕ, ◌+◌, ◌*◌, Bool, true, false, ◌&&◌, List, length, min, Ok, Err, Option, Result, nat_le, slice_index_or}
-use Rattle.bitset.specs.Sets.{those}
+-- What the questions of a call tell, and what is refused.
+use Rattle.std.specs.Prelude.{◌≡◌, ◌<◌, ◌≤◌, ℕ, ◌+◌, ◌*◌, Bool, true, false, List, length, min, Ok, Err, Result, slice_index, slice_index_or}
 use Rattle.grid.specs.declared.Grid.{Grid}
-use Rattle.grid.specs.Grids.{SameLoan}
+use Rattle.history.specs.declared.calls.Call.{Call}
+use Rattle.history.specs.declared.calls.Event.{Event}
+use Rattle.history.specs.declared.calls.Event.TheVariants.{Send, Receive}
 use Rattle.history.specs.declared.messages.Handling.{Handling}
 use Rattle.history.specs.declared.messages.Handling.TheVariants.{Sending, Receiving}
-use Rattle.history.specs.declared.messages.Post.{Post}
 use Rattle.history.specs.declared.refusals.Refusal.{Refusal}
-use Rattle.history.specs.Events.{Event, send, receive}
-use Rattle.history.specs.Runs.{Call}
-use Rattle.history.specs.Board.{Answer, own_clock, marked}
-use Rattle.causality.specs.declared.boards.Marked as code
-use Rattle.causality.specs.Boards.{Memory, Follows, Makes, fits_board, make_refusal}
-use Rattle.causality.specs.Loads.{Load, carrying, sized}
-
--- the memory that is lent to a call
-abbrev pub lent : {V : Type 0} → Grid ℕ → Grid Bool → Grid V → List Post → Memory V
-lent clocks flags values posts = record { clocks = clocks; flags = flags; values = values; posts = posts }
-
--- whether it is long enough for a board of n units and k messages
-abbrev pub has_room : {V : Type 0} → ℕ → ℕ → Memory V → Bool
-has_room n k a = fits_board n k a.clocks && (fits_board n k a.flags && (fits_board n k a.values && nat_le k (length a.posts)))
-
--- Each grid is as wide as before, and lent by the same lender.
-pub record SameLoans {V : Type 0} (old new : Memory V) : Type 0 where
-  pub clocks : SameLoan old.clocks new.clocks
-  pub flags : SameLoan old.flags new.flags
-  pub values : SameLoan old.values new.values
-
--- What a call on a board of n units and k messages owes: it follows the rules, and lends back what it was lent.
-pub record Obeys {V : Type 0} (load : Load V) (n k : ℕ) (c : Call) (old new : Memory V) (r : Result (Answer V) Refusal) : Type 0 where
-  pub follows : Follows (carrying load n) (sized load n k) c (has_room n k old) old new r
-  pub loans : SameLoans old new
-
--- What the making of such a board owes.
-pub record Begins {V : Type 0} (load : Load V) (n k : ℕ) (old new : Memory V) : Type 0 where
-  pub makes : Makes (carrying load n) n k (make_refusal n k (has_room n k old)) old new
-  pub loans : SameLoans old new
-
--- the questions about the size of a board
-abbrev pub size_refusal : ℕ → ℕ → Option Refusal
-size_refusal n k = make_refusal n k true
+use Rattle.history.specs.Limits.{most_marks}
+use Rattle.causality.specs.Boards.{Setup, Memory, Obeys, has_room}
 
 -- a grid is as wide as a board of n units and k messages, and has all its rows
 pub record Room {X : Type 0} (n k : ℕ) (g : Grid X) : Type 0 where
   pub width : g.width ≡ n
   pub cells : (n + k) * n ≤ length g.cells.now
 
--- What a board of n units and k messages knows once its memory is long enough and a unit is there.
+-- What is known once a call has asked for its memory and its unit: the memory is long enough for a board of n units and k messages, and unit u is
+-- one of its units.
 pub record Ready {V : Type 0} (n k : ℕ) (a : Memory V) (u : ℕ) : Type 0 where
   pub room : has_room n k a ≡ true
   pub clocks : Room n k a.clocks
@@ -57,25 +25,26 @@ pub record Ready {V : Type 0} (n k : ℕ) (a : Memory V) (u : ℕ) : Type 0 wher
   pub posts : k ≤ length a.posts
   pub unit : u < n
 
--- A call that is refused for e owes its memory as it was.
-abbrev pub TurnedAway : {V : Type 0} → Load V → ℕ → ℕ → Memory V → Call → Refusal → Type 0
-TurnedAway load n k a c e = Obeys load n k c a a (Err e)
+-- unit u's own clock, in a memory with rows of n cells
+abbrev pub own_clock_in : {V : Type 0} → ℕ → Memory V → ℕ → ℕ
+own_clock_in n a u = slice_index a.clocks.cells.now (u * n + u)
+
+-- What is known once a mark has asked all of its questions: that unit u may use label l, and that its own clock is below the limit.
+pub record MayMark {V : Type 0} (b : Setup V) (a : Memory V) (u l : ℕ) : Type 0 where
+  pub ready : Ready b.units b.messages a u
+  pub label : b.rules.fits u l ≡ true
+  pub below : own_clock_in b.units a u < most_marks
+
+-- A call is refused for e: with e as its answer and the memory as it was, it obeys the rules.
+abbrev pub IsRefused : {V : Type 0} → Setup V → Memory V → Call → Refusal → Type 0
+IsRefused b a c e = Obeys b c a a (Err e)
 
 -- what is done to a message
-abbrev pub handle : Handling → ℕ → Event
-handle Sending m = send m
-handle Receiving m = receive m
+abbrev pub handling_event : Handling → ℕ → Event
+handling_event Sending m = Send m
+handling_event Receiving m = Receive m
 
--- the units whose flag in a row is yes, as a number
-abbrev pub flags_in : List Bool → ℕ
-flags_in flags = those (λ j. slice_index_or flags j false) (min (length flags) 64)
-
--- what a send or a receipt answers
-abbrev pub clock_told : {V : Type 0} → Result ℕ Refusal → Result (Answer V) Refusal
-clock_told (Ok clock) = Ok (own_clock clock)
-clock_told (Err e) = Err e
-
--- what a mark answers
-abbrev pub mark_told : {V : Type 0} → Result (code.Marked V) Refusal → Result (Answer V) Refusal
-mark_told (Ok m) = Ok (marked m.clock m.predecessors m.value)
-mark_told (Err e) = Err e
+-- a result whose answer is one case of a longer list of cases, or the same refusal
+abbrev pub result_as : {X Y : Type 0} → (X → Y) → Result X Refusal → Result Y Refusal
+result_as case (Ok x) = Ok (case x)
+result_as case (Err e) = Err e

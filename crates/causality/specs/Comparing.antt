@@ -6,7 +6,8 @@ use Rattle.history.specs.Marks.{IsMark}
 use Rattle.history.specs.Stamps.{Stamp}
 use Rattle.history.specs.Precedence.{Ordered}
 use Rattle.history.specs.Limits.{most_units}
-use Rattle.history.specs.Runs.{Size, Call, Run, events_in}
+use Rattle.history.specs.Runs.{Size, Run, events_in}
+use Rattle.history.specs.declared.calls.Call.{Call}
 
 -- Where p and q are the stamps of a mark of unit u and of a mark of unit v in any run of a board, the answer r is o exactly when
 -- the marks stand so.

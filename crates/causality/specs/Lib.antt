@@ -1,6 +1,5 @@
 pub mod Boards
 pub mod Calls
 pub mod Comparing
-pub mod Handing
-pub mod Loads
 pub mod Merging
+pub mod Payloads

@@ -1,54 +1,50 @@
-// A board follows the calls of a run: what each unit knows of the others' marks, and what is carried along their flows.
-// Each call asks its questions first, and the first no refuses it; what it does then cannot fail.
-ghost use Rattle.std.specs.Prelude.{◌≡◌, ℕ, ◌+◌, ◌*◌, ◌<◌, ◌≤◌, ◌++◌, drop, length, replicate, None, true, false, MatchResult, count_by, slice_index, slice_index_or};
-ghost use Rattle.grid.specs.Rows.{row as row_of, with_row};
-ghost use Rattle.history.specs.declared.messages.Post.TheVariants.{Unsent};
-ghost use Rattle.history.specs.Events.{send, receive, mark};
-ghost use Rattle.history.specs.Limits.{most_marks, most_messages, most_units};
-ghost use Rattle.history.specs.Messages.{moved, travels};
-ghost use Rattle.history.specs.Rows.{Cell};
-ghost use Rattle.history.specs.Runs.{Call, call};
-ghost use Rattle.causality.specs.Boards.{EachShows, fits_board, make_refusal, state_answer, left_answer};
-ghost use Rattle.causality.specs.Calls.{Obeys, Begins, lent, has_room, size_refusal, flags_in, Ready, TurnedAway, handle, clock_told, mark_told};
-ghost use Rattle.causality.specs.Loads.{Reads};
+//! A board follows the calls of a run: what each unit knows of the others' marks, and what is carried along their flows.
+//!
+//! Each call asks its questions first, each once and in its order, and the first no refuses it; what it does then cannot fail. The board's rows
+//! and the states of its messages lie in memory that the caller brings to each call: a grid of clocks, one of flags and one of values, each as
+//! wide as the board has units, with row u for unit u and row units + m for message m; and a slice with a place for each message.
+ghost use Rattle.std.specs.Prelude.{◌≡◌, ◌+◌, ◌*◌, ◌<◌, ◌≤◌, ◌++◌, drop, length, replicate, false, count_by, slice_index_or};
 ghost use Rattle.bitset.specs.Sets.{those};
+ghost use Rattle.grid.specs.Rows.{row as row_of, with_row};
+ghost use Rattle.history.specs.Limits.{most_messages, most_units};
+ghost use Rattle.history.specs.Messages.{travels, unsent};
+ghost use Rattle.causality.specs.Payloads.{flags_in};
 
 use super::merging::merge_rows;
 use super::payloads::Payload;
-use super::{Clock, MAX_MESSAGES, MAX_UNITS};
+use super::{MAX_MESSAGES, MAX_UNITS};
 use grid::{Grid, RowPair, at_or, fill, reset_row};
-use history::{Handling, Post, Refusal};
+use history::{Clock, Handling, Marked, Post, Refusal};
 
-// A board of `units` units and `messages` messages, and what its cells carry. Its rows and the states of its messages lie in memory that the
-// caller brings to each call: a grid of clocks, one of flags and one of values, each as wide as the board has units, with row u for unit u and
-// row units + m for message m.
+/// A board of so many units and messages, whose cells carry a payload beside clocks and flags.
 #[derive(Drop)]
 pub struct Board<P: Payload> {
-    pub units: usize,
-    pub messages: usize,
-    pub payload: P,
+    units: usize,
+    messages: usize,
+    payload: P,
     ghost some_units: { 0 < units },
     ghost few_units: { units ≤ most_units },
     ghost few_messages: { messages ≤ most_messages },
 }
 
-// What an accepted mark is told: its unit's own clock, a number with bit v for each unit v that has an immediate predecessor of it, and
-// its value.
-#[derive(Clone, Copy, PartialEq, Eq, Debug)]
-pub struct Marked<V> {
-    pub clock: Clock,
-    pub predecessors: u64,
-    pub value: V,
-}
-
 impl<P: Payload> Board<P> {
-    // A board of that size, whose memory is still to be brought: is it a size that a board can have?
-    pub fn sized(payload: P, units: usize, messages: usize) -> Result<Board<P>, Refusal>
+    ghost use Rattle.std.specs.Prelude.{◌≡◌, ℕ, ◌+◌, ◌*◌, ◌<◌, ◌≤◌, length, true, MatchResult, slice_index, slice_index_or};
+    ghost use Rattle.grid.specs.Rows.{row as row_of};
+    ghost use Rattle.history.specs.declared.calls.Answer.TheVariants.{Sent, Received, Marked as marked};
+    ghost use Rattle.history.specs.declared.calls.Call.{Call};
+    ghost use Rattle.history.specs.declared.calls.Event.TheVariants.{Mark, Receive, Send};
+    ghost use Rattle.history.specs.declared.cells.Cell.{Cell};
+    ghost use Rattle.history.specs.Messages.{moved, unsent};
+    ghost use Rattle.history.specs.Runs.{call};
+    ghost use Rattle.causality.specs.Boards.{Begins, EachShows, MakeAnswer, Obeys, has_all_rows, has_room, left_answer, memory, payload_of, setup, setup_of, state_answer};
+    ghost use Rattle.causality.specs.Calls.{IsRefused, MayMark, Ready, handling_event, own_clock_in, result_as};
+    ghost use Rattle.causality.specs.Payloads.{Reads};
+
+    /// A board of that size, whose memory is still to be brought. Refuses units outside 1 to 16 (1) and more than 255 messages (2).
+    pub fn of_size(payload: P, units: usize, messages: usize) -> Result<Board<P>, Refusal>
     where
         P: Drop,
-        ensures { MatchResult result
-            (λ b. (size_refusal units messages ≡ None) × (b.units ≡ units) × (b.messages ≡ messages) × (b.payload ≡ payload))
-            (λ e. size_refusal units messages ≡ Some e) }
+        ensures { MakeAnswer payload units messages true result }
     {
         if units < 1 || units > MAX_UNITS {
             return Err(Refusal::UnitCount);
@@ -63,7 +59,8 @@ impl<P: Payload> Board<P> {
         })
     }
 
-    // Makes a board: its rows become new, and no message is sent. Asks for the size, and then for the memory.
+    /// Makes a board: its rows become new, and no message is sent. Refuses as `of_size` does, and then memory that is too short (3); a
+    /// refusal changes nothing.
     pub fn make(
         payload: P,
         units: usize,
@@ -75,15 +72,18 @@ impl<P: Payload> Board<P> {
     ) -> Result<Board<P>, Refusal>
     where
         P: Drop,
-        ensures board { let refusal = make_refusal units messages (has_room units messages (lent clocks.old flags.old values.old posts.old)) in
-            MatchResult result
-            (λ b. (refusal ≡ None) × (b.units ≡ units) × (b.messages ≡ messages) × (b.payload ≡ payload))
-            (λ e. refusal ≡ Some e) }
-        ensures begins { Begins (P.load payload) units messages
-            (lent clocks.old flags.old values.old posts.old) (lent clocks.new flags.new values.new posts.new) }
+        ensures board {
+            MakeAnswer payload units messages
+                (has_room units messages (memory clocks.old flags.old values.old posts.old)) result
+        }
+        ensures begins {
+            Begins (setup (P.rules payload) units messages)
+                (memory clocks.old flags.old values.old posts.old)
+                (memory clocks.new flags.new values.new posts.new)
+        }
     {
-        let board = Board::sized(payload, units, messages)?;
-        if !board.has_memory(clocks, flags, values, posts) {
+        let board = Board::of_size(payload, units, messages)?;
+        if !board.has_room(clocks, flags, values, posts) {
             return Err(Refusal::MemoryTooShort);
         }
         let rows = units + messages;
@@ -94,31 +94,47 @@ impl<P: Payload> Board<P> {
         Ok(board)
     }
 
-    // Whether the memory is long enough: the first question of each call. Whatever it holds, it shows a state (`shows`), so that the promises
-    // of the calls, which speak of each state that the memory shows, speak of every memory.
+    /// What the board's cells carry, as its maker handed it in.
+    pub fn payload(&self) -> &P
+        ensures { result.now ≡ payload_of self.now }
+    {
+        &self.payload
+    }
+
+    /// Whether the memory is long enough: the first question of each call. Whatever a memory holds, it shows a state (`shows`), so the promises
+    /// of the calls, which speak of each state that the memory shows, speak of every memory.
     #[tactic(auto, using(crate::proofs::Leaving::each_shows))]
-    pub fn has_memory(
+    pub fn has_room(
         &self,
         clocks: &Grid<'_, Clock>,
         flags: &Grid<'_, bool>,
         values: &Grid<'_, P::Value>,
         posts: &[Post],
     ) -> bool
-        ensures room { result ≡ has_room self.now.units self.now.messages (lent clocks.now flags.now values.now posts.now) }
-        ensures shows { EachShows (P.load self.now.payload).start self.now.units self.now.messages }
+        ensures room {
+            let b = setup_of self.now in
+            result ≡ has_room b.units b.messages (memory clocks.now flags.now values.now posts.now)
+        }
+        ensures shows {
+            let b = setup_of self.now in
+            EachShows b.rules.start b.units b.messages
+        }
     {
-        self.fits(clocks) && self.fits(flags) && self.fits(values) && self.messages <= posts.len()
+        self.has_all_rows(clocks)
+            && self.has_all_rows(flags)
+            && self.has_all_rows(values)
+            && self.messages <= posts.len()
     }
 
     // Whether a grid is as wide as the board has units, and long enough for all rows.
-    fn fits<T: Copy>(&self, grid: &Grid<'_, T>) -> bool
-        ensures { result ≡ fits_board self.now.units self.now.messages grid.now }
+    fn has_all_rows<T: Copy>(&self, grid: &Grid<'_, T>) -> bool
+        ensures { result ≡ has_all_rows self.now.units self.now.messages grid.now }
     {
         grid.width == self.units && (self.units + self.messages) * self.units <= grid.cells.len()
     }
 
-    // The questions that a call of a unit begins with: is the memory long enough, and is the unit there? It only reads.
-    fn ask_unit(
+    /// The questions that each call of a unit begins with: is the memory long enough (3), and is the unit there (4)? It only reads.
+    pub fn ask_unit(
         &self,
         clocks: &Grid<'_, Clock>,
         flags: &Grid<'_, bool>,
@@ -126,12 +142,14 @@ impl<P: Payload> Board<P> {
         posts: &[Post],
         unit: usize,
     ) -> Result<(), Refusal>
-        ensures { let memory = lent clocks.now flags.now values.now posts.now in
-            MatchResult result
-            (λ _. Ready self.now.units self.now.messages memory unit)
-            (λ e. (c : Call) → c.unit ≡ unit → TurnedAway (P.load self.now.payload) self.now.units self.now.messages memory c e) }
+        ensures {
+            let b = setup_of self.now in
+            let a = memory clocks.now flags.now values.now posts.now in
+            MatchResult result (λ _. Ready b.units b.messages a unit)
+                (λ e. (c : Call) → c.unit ≡ unit → IsRefused b a c e)
+        }
     {
-        if !self.has_memory(clocks, flags, values, posts) {
+        if !self.has_room(clocks, flags, values, posts) {
             return Err(Refusal::MemoryTooShort);
         }
         if unit >= self.units {
@@ -140,7 +158,7 @@ impl<P: Payload> Board<P> {
         Ok(())
     }
 
-    // What a send or a receipt makes of the message, or why it is refused. It only reads.
+    // The questions of a send or a receipt. Answers what it makes of the message. It only reads.
     fn ask_message(
         &self,
         clocks: &Grid<'_, Clock>,
@@ -151,21 +169,25 @@ impl<P: Payload> Board<P> {
         message: usize,
         handling: Handling,
     ) -> Result<Post, Refusal>
-        ensures { let memory = lent clocks.now flags.now values.now posts.now in
+        ensures {
+            let b = setup_of self.now in
+            let a = memory clocks.now flags.now values.now posts.now in
             MatchResult result
-            (λ post. Ready self.now.units self.now.messages memory unit × (message < self.now.messages)
-            × (moved (slice_index_or posts.now message Unsent) handling ≡ Ok post))
-            (λ e. TurnedAway (P.load self.now.payload) self.now.units self.now.messages memory (call unit (handle handling message)) e) }
+                (λ post. Ready b.units b.messages a unit × (message < b.messages)
+                    × (moved (slice_index_or posts.now message unsent) handling ≡ Ok post))
+                (λ e. IsRefused b a (call unit (handling_event handling message)) e)
+        }
     {
         self.ask_unit(clocks, flags, values, posts, unit)?;
         if message >= self.messages {
             return Err(Refusal::NoSuchMessage);
         }
-        at_or(posts, message, Post::Unsent).handled(handling)
+        at_or(posts, message, Post::UNSENT).handled(handling)
     }
 
-    // The own clock of a unit that makes a mark with a label, or why the mark is refused. It only reads.
-    fn ask_mark(
+    /// The questions of a mark, in their order: is the memory long enough (3), is the unit there (4), may it use the label (6), and is its own
+    /// clock below the limit (10)? Answers the unit's own clock. It only reads.
+    pub fn ask_mark(
         &self,
         clocks: &Grid<'_, Clock>,
         flags: &Grid<'_, bool>,
@@ -174,11 +196,12 @@ impl<P: Payload> Board<P> {
         unit: usize,
         label: u8,
     ) -> Result<Clock, Refusal>
-        ensures { let memory = lent clocks.now flags.now values.now posts.now in
-            MatchResult result
-            (λ own. Ready self.now.units self.now.messages memory unit × ((P.load self.now.payload).fits unit label ≡ true)
-            × (own ≡ slice_index clocks.now.cells.now (unit * self.now.units + unit)) × (own < most_marks))
-            (λ e. TurnedAway (P.load self.now.payload) self.now.units self.now.messages memory (call unit (mark label)) e) }
+        ensures {
+            let b = setup_of self.now in
+            let a = memory clocks.now flags.now values.now posts.now in
+            MatchResult result (λ own. MayMark b a unit label × (own ≡ own_clock_in b.units a unit))
+                (λ e. IsRefused b a (call unit (Mark label)) e)
+        }
     {
         self.ask_unit(clocks, flags, values, posts, unit)?;
         if !self.payload.fits(unit, label) {
@@ -199,7 +222,8 @@ impl<P: Payload> Board<P> {
         at_or(clocks.cells, unit * self.units + unit, 0)
     }
 
-    // Puts a message on its way: it takes along what its sender knows. Answers the sender's own clock.
+    /// Puts a message on its way: it takes along what its sender knows. Answers the sender's own clock. Refuses, in this order, memory that is
+    /// too short (3), a unit (4) or a message (5) that is not there, and a message sent before (7); a refusal changes nothing.
     pub fn send(
         &self,
         clocks: &mut Grid<'_, Clock>,
@@ -209,9 +233,11 @@ impl<P: Payload> Board<P> {
         unit: usize,
         message: usize,
     ) -> Result<Clock, Refusal>
-        ensures { Obeys (P.load self.now.payload) self.now.units self.now.messages
-            (call unit (send message)) (lent clocks.old flags.old values.old posts.old)
-            (lent clocks.new flags.new values.new posts.new) (clock_told result) }
+        ensures {
+            Obeys (setup_of self.now) (call unit (Send message))
+                (memory clocks.old flags.old values.old posts.old)
+                (memory clocks.new flags.new values.new posts.new) (result_as Sent result)
+        }
     {
         let post = self.ask_message(
             clocks,
@@ -230,7 +256,9 @@ impl<P: Payload> Board<P> {
         Ok(self.own_clock(clocks, unit))
     }
 
-    // Receives a message: its receiver learns what the message knows. Answers the receiver's own clock.
+    /// Receives a message: its receiver learns what the message knows. Answers the receiver's own clock. Refuses, in this order, memory that is
+    /// too short (3), a unit (4) or a message (5) that is not there, and a message never sent (8) or received before (9); a refusal changes
+    /// nothing.
     pub fn receive(
         &self,
         clocks: &mut Grid<'_, Clock>,
@@ -240,9 +268,11 @@ impl<P: Payload> Board<P> {
         unit: usize,
         message: usize,
     ) -> Result<Clock, Refusal>
-        ensures { Obeys (P.load self.now.payload) self.now.units self.now.messages
-            (call unit (receive message)) (lent clocks.old flags.old values.old posts.old)
-            (lent clocks.new flags.new values.new posts.new) (clock_told result) }
+        ensures {
+            Obeys (setup_of self.now) (call unit (Receive message))
+                (memory clocks.old flags.old values.old posts.old)
+                (memory clocks.new flags.new values.new posts.new) (result_as Received result)
+        }
     {
         let post = self.ask_message(
             clocks,
@@ -269,7 +299,8 @@ impl<P: Payload> Board<P> {
         Ok(self.own_clock(clocks, unit))
     }
 
-    // A unit makes a mark with a label. Answers its own clock, the units that have an immediate predecessor of the mark, and its value.
+    /// A unit makes a mark with a label. Answers its own clock, the units that have an immediate predecessor of the mark, and its value.
+    /// Refuses as `ask_mark` does; a refusal changes nothing.
     pub fn mark(
         &self,
         clocks: &mut Grid<'_, Clock>,
@@ -279,9 +310,11 @@ impl<P: Payload> Board<P> {
         unit: usize,
         label: u8,
     ) -> Result<Marked<P::Value>, Refusal>
-        ensures { Obeys (P.load self.now.payload) self.now.units self.now.messages
-            (call unit (mark label)) (lent clocks.old flags.old values.old posts.now)
-            (lent clocks.new flags.new values.new posts.now) (mark_told result) }
+        ensures {
+            Obeys (setup_of self.now) (call unit (Mark label))
+                (memory clocks.old flags.old values.old posts.now)
+                (memory clocks.new flags.new values.new posts.now) (result_as marked result)
+        }
     {
         let own = self.ask_mark(clocks, flags, values, posts, unit, label)?;
         let clock = own + 1;
@@ -309,8 +342,11 @@ impl<P: Payload> Board<P> {
     ) -> P::Value
         requires width { values.now.width ≡ self.now.units }
         requires row { unit * self.now.units + self.now.units ≤ length values.now.cells.now }
-        ensures { (n : ℕ) (r : ℕ → Cell P.Value) → Reads (P.load self.now.payload).start n r predecessors (row_of values.now.cells.now self.now.units unit)
-            → result ≡ (P.load self.now.payload).make n r unit label }
+        ensures {
+            let cells = row_of values.now.cells.now self.now.units unit in
+            (n : ℕ) (r : ℕ → Cell P.Value) → Reads (P.rules self.now.payload).start n r predecessors cells
+                → result ≡ (P.rules self.now.payload).make n r unit label
+        }
     {
         let start = unit * self.units;
         self.payload.worth(
@@ -321,7 +357,7 @@ impl<P: Payload> Board<P> {
         )
     }
 
-    // What became of a message.
+    /// What became of a message: never sent, on its way, or received. Refuses memory that is too short (3) and a message that is not there (5).
     pub fn state(
         &self,
         clocks: &Grid<'_, Clock>,
@@ -330,19 +366,22 @@ impl<P: Payload> Board<P> {
         posts: &[Post],
         message: usize,
     ) -> Result<Post, Refusal>
-        ensures { let there = has_room self.now.units self.now.messages (lent clocks.now flags.now values.now posts.now) in
-            result ≡ state_answer self.now.messages there posts.now message }
+        ensures {
+            let b = setup_of self.now in
+            let room = has_room b.units b.messages (memory clocks.now flags.now values.now posts.now) in
+            result ≡ state_answer b.messages room posts.now message
+        }
     {
-        if !self.has_memory(clocks, flags, values, posts) {
+        if !self.has_room(clocks, flags, values, posts) {
             return Err(Refusal::MemoryTooShort);
         }
         if message >= self.messages {
             return Err(Refusal::NoSuchMessage);
         }
-        Ok(at_or(posts, message, Post::Unsent))
+        Ok(at_or(posts, message, Post::UNSENT))
     }
 
-    // How many messages are on their way.
+    /// How many messages are on their way. Refuses memory that is too short (3).
     #[tactic(auto, using(crate::proofs::Leaving::travelling_front))]
     pub fn left(
         &self,
@@ -351,10 +390,13 @@ impl<P: Payload> Board<P> {
         values: &Grid<'_, P::Value>,
         posts: &[Post],
     ) -> Result<usize, Refusal>
-        ensures { let there = has_room self.now.units self.now.messages (lent clocks.now flags.now values.now posts.now) in
-            result ≡ left_answer self.now.messages there posts.now }
+        ensures {
+            let b = setup_of self.now in
+            let room = has_room b.units b.messages (memory clocks.now flags.now values.now posts.now) in
+            result ≡ left_answer b.messages room posts.now
+        }
     {
-        if !self.has_memory(clocks, flags, values, posts) {
+        if !self.has_room(clocks, flags, values, posts) {
             return Err(Refusal::MemoryTooShort);
         }
         Ok(travelling(&posts[..self.messages]))
@@ -415,9 +457,9 @@ fn eight(flags: &[bool], q: usize) -> u64
 // The first messages become as they are before anything is sent.
 fn begin_posts(posts: &mut [Post], messages: usize)
     requires { messages ≤ length posts.old }
-    ensures { posts.new ≡ replicate messages Unsent ++ drop messages posts.old }
+    ensures { posts.new ≡ replicate messages unsent ++ drop messages posts.old }
 {
-    fill(&mut posts[0..messages], Post::Unsent);
+    fill(&mut posts[0..messages], Post::UNSENT);
 }
 
 // How many messages are on their way.

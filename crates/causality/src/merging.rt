@@ -1,47 +1,34 @@
-// The merge of a message's row into a unit's row, cell by cell.
+//! The merge of a message's row into a unit's row, cell by cell.
 ghost use Rattle.std.specs.Prelude.{◌≡◌, ◌+◌, ◌*◌, ◌<◌, ◌≤◌, length, slice_set};
 ghost use Rattle.grid.specs.Grids.{LieWithin, with_cells};
-ghost use Rattle.history.specs.Rows.{merged_cell, news};
-ghost use Rattle.causality.specs.Merging.{cell, cell_at, merged};
+ghost use Rattle.history.specs.Rows.{merged_cell};
+ghost use Rattle.causality.specs.Merging.{cell_at, merged_row};
 
-use super::Clock;
 use grid::{RowPair, at_or, put};
+use history::{Cell, Clock};
 
-// What a row knows of one unit: how many of its marks, whether the last of these is an immediate predecessor of what comes next, and what
-// is carried along the flows that end there: (), where nothing is measured.
-// Flag and value are no `Option`: the caller lends flags and values as two memories, of any contents.
-#[derive(Clone, Copy, PartialEq, Eq, Debug)]
-pub struct Cell<V> {
-    pub clock: Clock,
-    pub flag: bool,
-    pub value: V,
-}
-
-impl<V: Copy> Cell<V> {
-    // The cell at a place of clocks, flags and values; past an end the clock is 0, the flag no, and the value `start`.
-    // Three slices of their own: the caller lends each memory apart, by a rule of the project.
-    pub fn at(start: V, clocks: &[Clock], flags: &[bool], values: &[V], place: usize) -> Cell<V>
-        ensures { cell result ≡ cell_at start clocks.now flags.now values.now place }
-    {
-        Cell {
-            clock: at_or(clocks, place, 0),
-            flag: at_or(flags, place, false),
-            value: at_or(values, place, start),
-        }
-    }
-
-    // Whether the other cell knows a mark that this one does not. No derived order: that would compare flags and values too.
-    pub fn is_behind(self, other: Cell<V>) -> bool
-        ensures { result ≡ news (cell self) (cell other) }
-    {
-        self.clock < other.clock
+/// The cell at a place of clocks, flags and values; past an end the clock is 0, the flag no, and the value `start`. Three slices of their own,
+/// since the caller lends each memory apart.
+pub fn cell_at<V: Copy>(
+    start: V,
+    clocks: &[Clock],
+    flags: &[bool],
+    values: &[V],
+    place: usize,
+) -> Cell<V>
+    ensures { result ≡ cell_at start clocks.now flags.now values.now place }
+{
+    Cell {
+        clock: at_or(clocks, place, 0),
+        flag: at_or(flags, place, false),
+        value: at_or(values, place, start),
     }
 }
 
-// A unit's cell merged with a message's: the one with the larger clock. At equal clocks both tell of one mark: the flag is yes only if
-// both are, and where it is no the value becomes `start`.
+/// A unit's cell merged with a message's: the one with the larger clock. At equal clocks both tell of one mark: the flag is yes only if
+/// both are, and where it is no the value becomes `start`.
 pub fn merge_cell<V: Copy>(start: V, own: Cell<V>, other: Cell<V>) -> Cell<V>
-    ensures { cell result ≡ merged_cell start (cell own) (cell other) }
+    ensures { result ≡ merged_cell start own other }
 {
     if own.is_behind(other) {
         return other;
@@ -71,12 +58,21 @@ fn merge_column<V: Copy>(
     requires clocks { LieWithin rows (length clocks.old) }
     requires flags { LieWithin rows (length flags.old) }
     requires values { LieWithin rows (length values.old) }
-    ensures clocks { clocks.new ≡ slice_set clocks.old (rows.to * rows.width + j) (merged start clocks.old flags.old values.old rows j).clock }
-    ensures flags { flags.new ≡ slice_set flags.old (rows.to * rows.width + j) (merged start clocks.old flags.old values.old rows j).flag }
-    ensures values { values.new ≡ slice_set values.old (rows.to * rows.width + j) (merged start clocks.old flags.old values.old rows j).value }
+    ensures clocks {
+        clocks.new ≡ slice_set clocks.old (rows.to * rows.width + j)
+            (merged_row start clocks.old flags.old values.old rows j).clock
+    }
+    ensures flags {
+        flags.new ≡ slice_set flags.old (rows.to * rows.width + j)
+            (merged_row start clocks.old flags.old values.old rows j).flag
+    }
+    ensures values {
+        values.new ≡ slice_set values.old (rows.to * rows.width + j)
+            (merged_row start clocks.old flags.old values.old rows j).value
+    }
 {
-    let other = Cell::at(start, clocks, flags, values, rows.from * rows.width + j);
-    let own = Cell::at(start, clocks, flags, values, rows.to * rows.width + j);
+    let other = cell_at(start, clocks, flags, values, rows.from * rows.width + j);
+    let own = cell_at(start, clocks, flags, values, rows.to * rows.width + j);
     let merged = merge_cell(start, own, other);
     put(&mut clocks[rows.to * rows.width..], j, merged.clock);
     put(&mut flags[rows.to * rows.width..], j, merged.flag);
@@ -95,9 +91,18 @@ pub(crate) fn merge_rows<V: Copy>(
     requires clocks { LieWithin rows (length clocks.old) }
     requires flags { LieWithin rows (length flags.old) }
     requires values { LieWithin rows (length values.old) }
-    ensures clocks { clocks.new ≡ with_cells clocks.old rows (λ j. (merged start clocks.old flags.old values.old rows j).clock) rows.width }
-    ensures flags { flags.new ≡ with_cells flags.old rows (λ j. (merged start clocks.old flags.old values.old rows j).flag) rows.width }
-    ensures values { values.new ≡ with_cells values.old rows (λ j. (merged start clocks.old flags.old values.old rows j).value) rows.width }
+    ensures clocks {
+        let row = merged_row start clocks.old flags.old values.old rows in
+        clocks.new ≡ with_cells clocks.old rows (λ j. (row j).clock) rows.width
+    }
+    ensures flags {
+        let row = merged_row start clocks.old flags.old values.old rows in
+        flags.new ≡ with_cells flags.old rows (λ j. (row j).flag) rows.width
+    }
+    ensures values {
+        let row = merged_row start clocks.old flags.old values.old rows in
+        values.new ≡ with_cells values.old rows (λ j. (row j).value) rows.width
+    }
 {
     for j in 0..rows.width {
         merge_column(start, clocks, flags, values, rows, j);

@@ -1,21 +1,21 @@
-// What the cells of a board carry beside clocks and flags.
+//! What the cells of a board carry beside clocks and flags.
 ghost use Rattle.std.specs.Prelude.{◌≡◌, ℕ};
-ghost use Rattle.history.specs.Rows.{Cell};
-ghost use Rattle.causality.specs.Loads.{Load, Reads, bare};
+ghost use Rattle.history.specs.declared.cells.Cell.{Cell};
+ghost use Rattle.causality.specs.Payloads.{Reads, bare, PayloadRules};
 
-// What cells carry along the flows of a run: a start, what a mark makes of the values of its predecessors, and which labels a unit may use.
+/// What cells carry along the flows of a run: a start, what a mark makes of the values of its predecessors, and which labels a unit may use.
 pub trait Payload {
     type Value: Copy;
 
-    // the three things that it offers
-    ghost load: { Self → Load Self.Value };
+    // the three things that it offers, on boards of any number of units
+    ghost rules: { Self → PayloadRules Self.Value };
 
-    // What a new cell carries.
+    /// What a new cell carries.
     fn start(&self) -> Self::Value
-        ensures { result ≡ (load self.now).start };
+        ensures { result ≡ (rules self.now).start };
 
-    // What a mark of a unit with a label makes, by the set of the units that have an immediate predecessor of it, and the values of its
-    // unit's row before it: what it makes of every row with these flags and values.
+    /// What a mark of a unit with a label makes, by the set of the units that have an immediate predecessor of it, and the values of its
+    /// unit's row before it: the same for every row with these flags and values.
     fn worth(
         &self,
         predecessors: u64,
@@ -23,21 +23,24 @@ pub trait Payload {
         unit: usize,
         label: u8,
     ) -> Self::Value
-        ensures { (n : ℕ) (r : ℕ → Cell Self.Value) → Reads (load self.now).start n r predecessors values.now → result ≡ (load self.now).make n r unit label };
+        ensures {
+            (n : ℕ) (r : ℕ → Cell Self.Value) → Reads (rules self.now).start n r predecessors values.now
+                → result ≡ (rules self.now).make n r unit label
+        };
 
-    // Whether a unit may use a label.
+    /// Whether a unit may use a label.
     fn fits(&self, unit: usize, label: u8) -> bool
-        ensures { result ≡ (load self.now).fits unit label };
+        ensures { result ≡ (rules self.now).fits unit label };
 }
 
-// Nothing is carried, and every label may be used.
+/// Nothing is carried, and every label may be used.
 #[derive(Clone, Copy, PartialEq, Eq, Debug)]
 pub struct Bare;
 
 impl Payload for Bare {
     type Value = ();
 
-    ghost load = { λ _. bare };
+    ghost rules = { λ _. bare };
 
     fn start(&self) {}
 

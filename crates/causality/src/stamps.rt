@@ -1,21 +1,23 @@
-// The stamps of marks: for each unit, how many of its marks are the mark or before it.
+//! The stamps of marks: for each unit, how many of its marks are the mark or before it.
 ghost use Rattle.std.specs.Prelude.{◌≡◌, ◌<◌, ◌&&◌, length, if◌then◌else◌, ◌==◌, nat_le, slice_index};
 ghost use Rattle.history.specs.declared.precedence.Precedence.TheVariants.{Same, Precedes, Follows, Concurrent};
 ghost use Rattle.history.specs.Precedence.{compare_answer, compared};
 ghost use Rattle.history.specs.Limits.{most_units};
 ghost use Rattle.causality.specs.Comparing.{OrdersMarks};
 
-use super::{Clock, MAX_UNITS};
-use history::{Precedence, Refusal};
+use super::MAX_UNITS;
+use history::{Clock, Precedence, Refusal};
 
-// The stamp of a mark, and the unit that made the mark.
+/// The stamp of a mark, and the unit that made the mark.
 #[derive(Clone, Copy, PartialEq, Eq, Debug)]
 pub struct Stamp<'a> {
     pub clocks: &'a [Clock],
     pub unit: usize,
 }
 
-// How the mark with stamp p stands to the mark with stamp q.
+/// How the mark with stamp p stands to the mark with stamp q: the same, before it, after it, or neither. Refuses stamps that are not equally long,
+/// or not from 1 to 16 long (12), and then a unit at or above that length (4). On the stamps of two marks of a run the answer is their causal
+/// order (`order`).
 pub fn compare(p: Stamp<'_>, q: Stamp<'_>) -> Result<Precedence, Refusal>
     ensures answer { result ≡ compare_answer p.entry.clocks.now q.entry.clocks.now p.entry.unit q.entry.unit }
     ensures order { OrdersMarks p.entry.clocks.now q.entry.clocks.now p.entry.unit q.entry.unit result }

@@ -7,18 +7,22 @@ use Rattle.history.specs.declared.precedence.Precedence.{Precedence}
 use Rattle.history.specs.declared.precedence.Precedence.TheVariants.{Precedes, Concurrent}
 use Rattle.history.specs.declared.refusals.Refusal.{Refusal}
 use Rattle.history.specs.declared.refusals.Refusal.TheVariants.{NoSuchUnit, NoSuchMessage, NeverSent}
-use Rattle.history.specs.Board.{Answer, own_clock, marked, Reply, run, outcome}
-use Rattle.history.specs.Events.{Event, send, receive, mark, at}
+use Rattle.history.specs.Board.{own_clock, mark_answer, Reply, run, outcome}
+use Rattle.history.specs.declared.calls.Answer.{Answer}
+use Rattle.history.specs.Events.{at}
+use Rattle.history.specs.declared.calls.Event.TheVariants.{Mark, Receive, Send}
+use Rattle.history.specs.declared.calls.Event.{Event}
 use Rattle.history.specs.Precedence.{compared}
 use Rattle.history.specs.Limits.{most_marks}
-use Rattle.history.specs.Runs.{Call, call}
+use Rattle.history.specs.Runs.{call}
+use Rattle.history.specs.declared.calls.Call.{Call}
 use Rattle.measures.specs.Words.{Letter, Word}
 use Rattle.measures.specs.Measures.{Meaning}
 use Rattle.measures.specs.Automata.{state_sets}
 use Rattle.measures.specs.Counts.{flow_count}
 use Rattle.measures.specs.Formats.{states_in, labels_in, start_in, finals_in, table_in}
 use Rattle.measures.specs.Spans.{ends, span}
-use Rattle.measures.specs.Worths.{carrying, sized}
+use Rattle.measures.specs.Worths.{measured_payload, measured_size}
 
 -- A run on a board of some units and messages, whose marks have so many labels.
 pub record WorkedRun : Type 0 where
@@ -62,7 +66,7 @@ words n = record {
 
 -- what the event at place i of unit u was told under a measure
 abbrev pub reply_to : {V : Type 0} → Meaning V → WorkedRun → ℕ → ℕ → Option (Reply V)
-reply_to m r u i = at (run (carrying m r.units) (sized m r.units r.messages most_marks) r.calls).told u i
+reply_to m r u i = at (run (measured_payload m r.units) (measured_size m r.units r.messages most_marks) r.calls).told u i
 
 -- Something found of a run.
 pub data Finding : Type 0 where
@@ -82,12 +86,12 @@ pub data Finding : Type 0 where
 -- the own number and the predecessors that a mark was told
 abbrev pub mark_in : {V : Type 0} → Answer V → Option (ℕ × ℕ)
 mark_in (own_clock c) = None
-mark_in (marked c p v) = Some (c, p)
+mark_in (mark_answer c p v) = Some (c, p)
 
 -- the value that a mark was told
 abbrev pub value_in : {V : Type 0} → Answer V → Option V
 value_in (own_clock c) = None
-value_in (marked c p v) = Some v
+value_in (mark_answer c p v) = Some v
 
 -- how many flows have a word, by what the measure of words tells
 abbrev pub having : Word → (Word → ℕ) → ℕ
@@ -118,8 +122,8 @@ module _ (r : WorkedRun) where
       × AllByRecursion (λ w. option_map (having w) (option_and_then (λ x. value_in x.answer) (reply_to (words r.labels) r u i)) ≡ Some 1) ws
   Found (order_is u i v j order) = compared (stamp_at u i) (stamp_at v j) u v ≡ order
   Found (refusal_is u e refusal) =
-      outcome (carrying (flow_count r.labels) r.units) (sized (flow_count r.labels) r.units r.messages most_marks)
-      (run (carrying (flow_count r.labels) r.units) (sized (flow_count r.labels) r.units r.messages most_marks) r.calls).state (call u e)
+      outcome (measured_payload (flow_count r.labels) r.units) (measured_size (flow_count r.labels) r.units r.messages most_marks)
+      (run (measured_payload (flow_count r.labels) r.units) (measured_size (flow_count r.labels) r.units r.messages most_marks) r.calls).state (call u e)
       ≡ Err refusal
 
 -- a run and what is found of it
@@ -133,7 +137,7 @@ player_waits_first = record {
     units = 2;
     messages = 2;
     labels = 3;
-    calls = call 1 (mark 1) ∷ call 1 (send 0) ∷ call 0 (receive 0) ∷ call 0 (mark 0) ∷ call 0 (send 1) ∷ call 1 (receive 1) ∷ call 1 (mark 2) ∷ [];
+    calls = call 1 (Mark 1) ∷ call 1 (Send 0) ∷ call 0 (Receive 0) ∷ call 0 (Mark 0) ∷ call 0 (Send 1) ∷ call 1 (Receive 1) ∷ call 1 (Mark 2) ∷ [];
   };
   findings = mark_is 1 3 2 1 (1 ∷ 2 ∷ []) ∷ set_is 1 3 8 true true ∷ flows_are 1 3 1 3 3 ∷ [];
 }
@@ -144,7 +148,7 @@ lost_wake_up = record {
     units = 2;
     messages = 2;
     labels = 3;
-    calls = call 0 (mark 0) ∷ call 0 (send 1) ∷ call 1 (mark 1) ∷ call 1 (send 0) ∷ call 1 (receive 1) ∷ call 0 (receive 0) ∷ call 1 (mark 2) ∷ [];
+    calls = call 0 (Mark 0) ∷ call 0 (Send 1) ∷ call 1 (Mark 1) ∷ call 1 (Send 0) ∷ call 1 (Receive 1) ∷ call 0 (Receive 0) ∷ call 1 (Mark 2) ∷ [];
   };
   findings = mark_is 1 3 2 3 (1 ∷ 2 ∷ []) ∷ set_is 1 3 16 false false ∷ flows_are 1 3 2 2 2 ∷ [];
 }
@@ -156,8 +160,8 @@ three_chains_into_one_mark = record {
     units = 3;
     messages = 3;
     labels = 6;
-    calls = call 0 (mark 0) ∷ call 0 (send 0) ∷ call 0 (mark 1) ∷ call 2 (mark 3) ∷ call 2 (send 1) ∷ call 1 (receive 0) ∷ call 1 (receive 1) ∷ call 1 (mark 4)
-        ∷ call 1 (mark 5) ∷ call 1 (send 2) ∷ call 0 (receive 2) ∷ call 0 (mark 2) ∷ [];
+    calls = call 0 (Mark 0) ∷ call 0 (Send 0) ∷ call 0 (Mark 1) ∷ call 2 (Mark 3) ∷ call 2 (Send 1) ∷ call 1 (Receive 0) ∷ call 1 (Receive 1) ∷ call 1 (Mark 4)
+        ∷ call 1 (Mark 5) ∷ call 1 (Send 2) ∷ call 0 (Receive 2) ∷ call 0 (Mark 2) ∷ [];
   };
   findings = mark_is 0 0 1 0 (1 ∷ 0 ∷ 0 ∷ []) ∷ mark_is 0 2 2 1 (2 ∷ 0 ∷ 0 ∷ []) ∷ mark_is 2 0 1 0 (0 ∷ 0 ∷ 1 ∷ []) ∷ mark_is 1 2 1 5 (1 ∷ 1 ∷ 1 ∷ [])
       ∷ mark_is 1 3 2 2 (1 ∷ 2 ∷ 1 ∷ []) ∷ mark_is 0 4 3 3 (3 ∷ 2 ∷ 1 ∷ [])
@@ -172,7 +176,7 @@ message_overtaken_by_an_indirect_one = record {
     units = 3;
     messages = 3;
     labels = 1;
-    calls = call 0 (mark 0) ∷ call 0 (send 0) ∷ call 0 (send 1) ∷ call 1 (receive 0) ∷ call 1 (mark 0) ∷ call 1 (send 2) ∷ call 2 (receive 1) ∷ call 2 (receive 2) ∷ call 2 (mark 0) ∷ [];
+    calls = call 0 (Mark 0) ∷ call 0 (Send 0) ∷ call 0 (Send 1) ∷ call 1 (Receive 0) ∷ call 1 (Mark 0) ∷ call 1 (Send 2) ∷ call 2 (Receive 1) ∷ call 2 (Receive 2) ∷ call 2 (Mark 0) ∷ [];
   };
   findings = mark_is 2 2 1 2 (1 ∷ 1 ∷ 1 ∷ []) ∷ flows_are 2 2 1 3 3 ∷ [];
 }
@@ -183,7 +187,7 @@ two_messages_from_one_mark = record {
     units = 2;
     messages = 2;
     labels = 1;
-    calls = call 0 (mark 0) ∷ call 0 (send 0) ∷ call 0 (send 1) ∷ call 1 (receive 0) ∷ call 1 (receive 1) ∷ call 1 (mark 0) ∷ [];
+    calls = call 0 (Mark 0) ∷ call 0 (Send 0) ∷ call 0 (Send 1) ∷ call 1 (Receive 0) ∷ call 1 (Receive 1) ∷ call 1 (Mark 0) ∷ [];
   };
   findings = mark_is 1 2 1 1 (1 ∷ 1 ∷ []) ∷ flows_are 1 2 1 2 2 ∷ [];
 }
@@ -194,7 +198,7 @@ unit_hears_itself = record {
     units = 1;
     messages = 1;
     labels = 1;
-    calls = call 0 (mark 0) ∷ call 0 (send 0) ∷ call 0 (mark 0) ∷ call 0 (receive 0) ∷ call 0 (mark 0) ∷ [];
+    calls = call 0 (Mark 0) ∷ call 0 (Send 0) ∷ call 0 (Mark 0) ∷ call 0 (Receive 0) ∷ call 0 (Mark 0) ∷ [];
   };
   findings = mark_is 0 4 3 1 (3 ∷ []) ∷ flows_are 0 4 1 3 3 ∷ [];
 }
@@ -202,7 +206,7 @@ unit_hears_itself = record {
 abbrev pub refusals_on_a_new_board : Case
 refusals_on_a_new_board = record {
   worked = record { units = 2; messages = 2; labels = 1; calls = [] };
-  findings = refusal_is 2 (send 9) NoSuchUnit ∷ refusal_is 0 (send 2) NoSuchMessage ∷ refusal_is 0 (receive 0) NeverSent ∷ [];
+  findings = refusal_is 2 (Send 9) NoSuchUnit ∷ refusal_is 0 (Send 2) NoSuchMessage ∷ refusal_is 0 (Receive 0) NeverSent ∷ [];
 }
 
 abbrev pub cases : List Case

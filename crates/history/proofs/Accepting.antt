@@ -1,9 +1,13 @@
 -- Accepted is what a real run could do.
 use Rattle.std.proofs.Common.{◌≡◌, ◌↔◌, ℕ, cond, eqb, List, ◌∷◌, ◌++◌, length, None, sym, refl, ap, ◌∙◌, append_assoc, append-nil, arith}
-use Rattle.history.specs.Events.{Event, Logs, at, send, receive, mark}
+use Rattle.history.specs.Events.{Logs, at}
+use Rattle.history.specs.declared.calls.Event.TheVariants.{Mark, Receive, Send}
+use Rattle.history.specs.declared.calls.Event.{Event}
 use Rattle.history.specs.Marks.{marks}
-use Rattle.history.specs.Rows.{Payload, Cell}
-use Rattle.history.specs.Runs.{Size, Call, Possible, Continues, grown, by_unit}
+use Rattle.history.specs.Rows.{Payload}
+use Rattle.history.specs.declared.cells.Cell.{Cell}
+use Rattle.history.specs.Runs.{Size, Possible, Continues, grown, by_unit}
+use Rattle.history.specs.declared.calls.Call.{Call}
 use Rattle.history.specs.Board.{State, History, new_history, refusal, run_from, run, accepted_from}
 use Rattle.history.specs.Laws.{AcceptsRuns, AcceptedAreRuns}
 use Rattle.history.proofs.RowOf.{Row}
@@ -26,13 +30,13 @@ module _ {V : Type 0} (M : Payload V) (z : Size) where
 
     -- a call is accepted exactly when a real run could make it
     pub accepted_possible : (u : ℕ) (e : Event) → (refusal M z s u e ≡ None) ↔ Possible z logs u e
-    accepted_possible u (send m) = let t = may_send (at logs) m (s.posts m) (h.posts_are m) in grind arith
-    accepted_possible u (receive m) = let t = may_receive (at logs) m (s.posts m) (h.posts_are m) in grind arith
-    accepted_possible u (mark l) = let e = own_marks u in grind arith
+    accepted_possible u (Send m) = let t = may_send (at logs) m (s.posts m) (h.posts_are m) in grind arith
+    accepted_possible u (Receive m) = let t = may_receive (at logs) m (s.posts m) (h.posts_are m) in grind arith
+    accepted_possible u (Mark l) = let e = own_marks u in grind arith
 
   accepted_continues : (h : History V) (cs : List Call) → SoundAt M z h → Continues z h.log (accepted_from M z h cs)
   accepted_continues = by_calls M z (λ h cs. SoundAt M z h → Continues z h.log (accepted_from M z h cs)) (λ h s. tt)
-      (λ h c cs e next s. rw e ((accepted_possible h.state h.log s c.unit c.act).0 e, next (sound_taken M z h c s e)))
+      (λ h c cs e next s. rw e ((accepted_possible h.state h.log s c.unit c.event).0 e, next (sound_taken M z h c s e)))
       (λ h c cs x e same s. rw e (same s))
 
   accepted_idle : (h : History V) (cs : List Call) → run_from M z h (accepted_from M z h cs) ≡ run_from M z h cs
@@ -43,9 +47,9 @@ module _ {V : Type 0} (M : Payload V) (z : Size) where
   continues_accepted : (h : History V) (cs : List Call) → SoundAt M z h → Continues z h.log cs → accepted_from M z h cs ≡ cs
   continues_accepted = by_calls M z (λ h cs. SoundAt M z h → Continues z h.log cs → accepted_from M z h cs ≡ cs) (λ h s p. refl)
       (λ h c cs e next s p. rw e (ap (λ (l : List Call). c ∷ l) (next (sound_taken M z h c s e) p.1)))
-      (λ h c cs x e same s p. (let f = (accepted_possible h.state h.log s c.unit c.act).1 p.0 in cc))
+      (λ h c cs x e same s p. (let f = (accepted_possible h.state h.log s c.unit c.event).1 p.0 in cc))
 
-  grown_by_unit : (logs : Logs) (c : Call) (u : ℕ) (l : List Event) → grown logs c.unit c.act u ++ l ≡ logs u ++ cond (eqb u c.unit) (c.act ∷ l) l
+  grown_by_unit : (logs : Logs) (c : Call) (u : ℕ) (l : List Event) → grown logs c.unit c.event u ++ l ≡ logs u ++ cond (eqb u c.unit) (c.event ∷ l) l
   grown_by_unit logs c u l = grind (arith, append_assoc)
 
   -- the log of a run is what was there and the accepted calls

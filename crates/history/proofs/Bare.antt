@@ -1,9 +1,13 @@
 -- Clocks, flags and messages do not depend on what cells carry.
 use Rattle.std.proofs.Common.{◌≡◌, ℕ, List, [], ◌∷◌, Some, None, Option, refl, ap, subst, arith}
 use Rattle.history.specs.declared.refusals.Refusal.{Refusal}
-use Rattle.history.specs.Events.{Event, Logs, send, receive, mark}
-use Rattle.history.specs.Rows.{Payload, Cell, put}
-use Rattle.history.specs.Runs.{Size, Call}
+use Rattle.history.specs.Events.{Logs}
+use Rattle.history.specs.declared.calls.Event.TheVariants.{Mark, Receive, Send}
+use Rattle.history.specs.declared.calls.Event.{Event}
+use Rattle.history.specs.Rows.{Payload, put}
+use Rattle.history.specs.declared.cells.Cell.{Cell}
+use Rattle.history.specs.Runs.{Size}
+use Rattle.history.specs.declared.calls.Call.{Call}
 use Rattle.history.specs.Board.{State, History, new_history, if_taken, refusal, acted, next, after, run_from, run}
 use Rattle.history.specs.Laws.{SameBare, CarriesFreely, PayloadFree}
 
@@ -24,9 +28,9 @@ module _ {V W : Type 0} where
   module _ (M : Payload V) (N : Payload W) (z : Size) where
     module _ (s : State V) (t : State W) (same : SameBare s t) where
       same_refusal : (u : ℕ) (e : Event) → refusal M z s u e ≡ refusal N z t u e
-      same_refusal u (send m) = grind (arith, same.posts m)
-      same_refusal u (receive m) = grind (arith, same.posts m)
-      same_refusal u (mark l) = grind (arith, same.clocks u u)
+      same_refusal u (Send m) = grind (arith, same.posts m)
+      same_refusal u (Receive m) = grind (arith, same.posts m)
+      same_refusal u (Mark l) = grind (arith, same.clocks u u)
 
       rows : (w j : ℕ) → Like (s.rows w j) (t.rows w j)
       rows w j = (same.clocks w j, same.flags w j)
@@ -36,19 +40,19 @@ module _ {V W : Type 0} where
 
       -- what a unit's row becomes
       rows_acted : (u : ℕ) (e : Event) (w j : ℕ) → Like ((acted M z s u e).rows w j) ((acted N z t u e).rows w j)
-      rows_acted u (send m) = rows
-      rows_acted u (receive m) = like_put s.rows t.rows u _ _ rows (λ j. grind (arith, rows u j, message_rows m j))
-      rows_acted u (mark l) = like_put s.rows t.rows u _ _ rows (λ j. grind (arith, rows u j))
+      rows_acted u (Send m) = rows
+      rows_acted u (Receive m) = like_put s.rows t.rows u _ _ rows (λ j. grind (arith, rows u j, message_rows m j))
+      rows_acted u (Mark l) = like_put s.rows t.rows u _ _ rows (λ j. grind (arith, rows u j))
 
       message_rows_acted : (u : ℕ) (e : Event) (m j : ℕ) → Like ((acted M z s u e).message_rows m j) ((acted N z t u e).message_rows m j)
-      message_rows_acted u (send m) = like_put s.message_rows t.message_rows m (s.rows u) (t.rows u) message_rows (rows u)
-      message_rows_acted u (receive m) = message_rows
-      message_rows_acted u (mark l) = message_rows
+      message_rows_acted u (Send m) = like_put s.message_rows t.message_rows m (s.rows u) (t.rows u) message_rows (rows u)
+      message_rows_acted u (Receive m) = message_rows
+      message_rows_acted u (Mark l) = message_rows
 
       posts_acted : (u : ℕ) (e : Event) (m : ℕ) → (acted M z s u e).posts m ≡ (acted N z t u e).posts m
-      posts_acted u (send n) m = grind (arith, same.posts m, same.posts n)
-      posts_acted u (receive n) m = grind (arith, same.posts m, same.posts n)
-      posts_acted u (mark l) m = same.posts m
+      posts_acted u (Send n) m = grind (arith, same.posts m, same.posts n)
+      posts_acted u (Receive n) m = grind (arith, same.posts m, same.posts n)
+      posts_acted u (Mark l) m = same.posts m
 
       same_acted : (u : ℕ) (e : Event) → SameBare (acted M z s u e) (acted N z t u e)
       same_acted u e = record {
@@ -61,8 +65,8 @@ module _ {V W : Type 0} where
 
       same_next : (c : Call) → SameBare (next M z s c) (next N z t c)
       same_next c =
-          subst (λ o. SameBare (next M z s c) (if_taken o (acted N z t c.unit c.act) t)) (same_refusal c.unit c.act)
-          (same_taken (refusal M z s c.unit c.act) s (acted M z s c.unit c.act) t (acted N z t c.unit c.act) (same_acted c.unit c.act) same)
+          subst (λ o. SameBare (next M z s c) (if_taken o (acted N z t c.unit c.event) t)) (same_refusal c.unit c.event)
+          (same_taken (refusal M z s c.unit c.event) s (acted M z s c.unit c.event) t (acted N z t c.unit c.event) (same_acted c.unit c.event) same)
 
     -- two histories that differ in nothing but what cells carry
     record Twin (g : History V) (h : History W) : Type 0 where
@@ -72,7 +76,7 @@ module _ {V W : Type 0} where
     twin_after : (g : History V) (h : History W) → Twin g h → (c : Call) → Twin (after M z g c) (after N z h c)
     twin_after g h t c = record {
       states = same_next g.state h.state t.states c;
-      logs = rw (same_refusal g.state h.state t.states c.unit c.act, t.logs) refl;
+      logs = rw (same_refusal g.state h.state t.states c.unit c.event, t.logs) refl;
     }
 
     twin_run : (g : History V) (h : History W) → Twin g h → (cs : List Call) → Twin (run_from M z g cs) (run_from N z h cs)

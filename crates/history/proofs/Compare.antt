@@ -3,12 +3,14 @@ use Rattle.std.proofs.Common.{◌≡◌, ℕ, suc, ◌<◌, false, ◌&&◌, eqb
 use mathlib.Core.Path.{fun_ext}
 use Rattle.std.proofs.lemmas.Bool.{cases_Bool, and_parts, eqb-true}
 use Rattle.history.specs.declared.precedence.Precedence.{Precedence}
-use Rattle.history.specs.Events.{Events, Logs, at, mark}
+use Rattle.history.specs.Events.{Events, Logs, at}
+use Rattle.history.specs.declared.calls.Event.TheVariants.{Mark}
 use Rattle.history.specs.Marks.{IsMark, marks}
 use Rattle.history.specs.HappenedBefore.{Before, chain, Here, UpTo}
 use Rattle.history.specs.Stamps.{Stamp}
 use Rattle.history.specs.Rows.{nothing}
-use Rattle.history.specs.Runs.{Size, Call, Run, by_unit}
+use Rattle.history.specs.Runs.{Size, Run, by_unit}
+use Rattle.history.specs.declared.calls.Call.{Call}
 use Rattle.history.specs.Board.{run}
 use Rattle.history.specs.Precedence.{Ordered, compared}
 use Rattle.history.specs.Laws.{StampsDecide}
@@ -45,17 +47,17 @@ module _ (z : Size) (cs : List Call) (ok : Run z cs) where
   ev : Events
   ev = at (run nothing z cs).log
 
-  knows : (u i l : ℕ) → ev u i ≡ Some (mark l) → (p : ℕ → ℕ) → Stamp ev u i p → Knows ev u i p
+  knows : (u i l : ℕ) → ev u i ≡ Some (Mark l) → (p : ℕ → ℕ) → Stamp ev u i p → Knows ev u i p
   unfolding ev
   knows u i l e p s =
-      let (r, t, d, g, q) = (said_run nothing z cs).says u i (mark l) e in
+      let (r, t, d, g, q) = (said_run nothing z cs).says u i (Mark l) e in
       let once = (sound_run nothing z cs).once in
       record { knows = stamp_knows nothing ev once u i l e t g p s; own = stamp_own nothing ev once u i l e t g p s }
 
-  irreflexive : (u i l : ℕ) → ev u i ≡ Some (mark l) → Before ev u i u i → ⊥
+  irreflexive : (u i l : ℕ) → ev u i ≡ Some (Mark l) → Before ev u i u i → ⊥
   unfolding ev
   irreflexive u i l e b =
-      let (r, t, d, g, q) = (said_run nothing z cs).says u i (mark l) e in
+      let (r, t, d, g, q) = (said_run nothing z cs).says u i (Mark l) e in
       (rows_true nothing ev (sound_run nothing z cs).once d).apart (before_past ev u i u i (l, e) b)
 
   decided : (u i v j : ℕ) → IsMark ev u i → IsMark ev v j → (p q : ℕ → ℕ) → Stamp ev u i p → Stamp ev v j q → (o : Precedence) → (compared p q u v ≡ o) ↔ Ordered ev u i v j o

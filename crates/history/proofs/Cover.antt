@@ -3,7 +3,7 @@ use Rattle.std.proofs.Common.{ℕ, sym, subst₂, inl, inr, ⊎_elim, arith}
 use Rattle.std.proofs.lemmas.Bool.{cases_lt}
 use Rattle.history.specs.Events.{Events}
 use Rattle.history.specs.Marks.{IsMark, marks}
-use Rattle.history.specs.Rows.{Cell}
+use Rattle.history.specs.declared.cells.Cell.{Cell}
 use Rattle.history.proofs.Past.{Past, Upto, past_trans}
 use Rattle.history.proofs.Truth.{Places, Either, Closed, Top, Same, Truthful, top_same}
 

@@ -1,8 +1,9 @@
 -- What holds of a unit's row after each number of its events.
 use Rattle.std.proofs.Common.{◌≡◌, ℕ, suc, ◌⊎◌, Some, inl, inr, ⊎_elim, arith}
-use Rattle.history.specs.Events.{Events, send, receive}
+use Rattle.history.specs.Events.{Events}
+use Rattle.history.specs.declared.calls.Event.TheVariants.{Receive, Send}
 use Rattle.history.specs.Marks.{marks}
-use Rattle.history.specs.Rows.{Cell}
+use Rattle.history.specs.declared.cells.Cell.{Cell}
 use Rattle.history.proofs.Past.{Past, Upto, own, got, past_more, past_trans, past_last, past_quiet}
 use Rattle.history.proofs.Truth.{Places, Either, Closed, Same, Truthful}
 use Rattle.history.proofs.Cover.{Covered}
@@ -13,7 +14,7 @@ Known ev u i v p = Past ev v p u i
 
 -- A message is sent once.
 abbrev pub Once : Events → Type 0
-Once ev = (m u i v j : ℕ) → ev u i ≡ Some (send m) → ev v j ≡ Some (send m) → (u ≡ v) × (i ≡ j)
+Once ev = (m u i v j : ℕ) → ev u i ≡ Some (Send m) → ev v j ≡ Some (Send m) → (u ≡ v) × (i ≡ j)
 
 -- What holds of the row r of unit u after its first i events.
 pub record Holds {V : Type 0} (ev : Events) (start : V) (W : ℕ → ℕ → V → Type 0) (u i : ℕ) (r : ℕ → Cell V) : Type 0 where
@@ -35,16 +36,16 @@ module _ (ev : Events) where
   nothing v p u (got k m w l lt r s p') = omega arith
 
   -- a send brings no mark
-  pub send_same : (u k m : ℕ) → ev u k ≡ Some (send m) → Same ev (Known ev u k) (Known ev u (suc k))
+  pub send_same : (u k m : ℕ) → ev u k ≡ Some (Send m) → Same ev (Known ev u k) (Known ev u (suc k))
   send_same u k m e w p (l, o) = grind (arith, past_more, past_quiet)
 
   -- a receipt brings itself and what was known just after the send
-  pub past_receive : Once ev → (u k m w j : ℕ) → ev u k ≡ Some (receive m) → ev w j ≡ Some (send m) → {v p : ℕ} → Past ev v p u (suc k)
+  pub past_receive : Once ev → (u k m w j : ℕ) → ev u k ≡ Some (Receive m) → ev w j ≡ Some (Send m) → {v p : ℕ} → Past ev v p u (suc k)
       → Upto ev v p u k ⊎ Past ev v p w (suc j)
   past_receive once u k m w j e s {v} {p} h = grind (arith, past_last)
 
   -- a receipt brings the marks that the message knows
-  pub receive_same : Once ev → (u k m w j : ℕ) → ev u k ≡ Some (receive m) → ev w j ≡ Some (send m) → Same ev (Either (Known ev u k) (Known ev w j)) (Known ev u (suc k))
+  pub receive_same : Once ev → (u k m w j : ℕ) → ev u k ≡ Some (Receive m) → ev w j ≡ Some (Send m) → Same ev (Either (Known ev u k) (Known ev w j)) (Known ev u (suc k))
   receive_same once u k m w j e s v p (l, o) = (
     ⊎_elim (past_more ev (suc k) (omega arith)) (λ x. got k m w j (omega arith) e s (past_more ev (suc j) (omega arith) x)),
     λ h. ⊎_elim (⊎_elim (λ x. (let p = x.0 in let q = x.1 in cc)) inl) (λ x. inr ((send_same w j m s v p (l, o)).1 x)) (past_receive once u k m w j e s h),

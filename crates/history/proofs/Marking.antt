@@ -2,8 +2,10 @@
 use Rattle.std.proofs.Common.{◌≡◌, ℕ, suc, ◌<◌, true, false, Some, sym, refl, subst, subst₂, inl, inr, arith}
 use Rattle.std.proofs.lemmas.Bool.Decides.{nat_tests}
 use Rattle.std.proofs.lemmas.Bool.{cases_lt}
-use Rattle.history.specs.Events.{Events, mark}
-use Rattle.history.specs.Rows.{Payload, Cell, mark_row}
+use Rattle.history.specs.Events.{Events}
+use Rattle.history.specs.declared.calls.Event.TheVariants.{Mark}
+use Rattle.history.specs.Rows.{Payload, mark_row}
+use Rattle.history.specs.declared.cells.Cell.{Cell}
 use Rattle.history.proofs.RowOf.{Row, new, sent, received, marked}
 use Rattle.history.proofs.Past.{Past, Upto, own, past_more, past_trans, past_quiet}
 use Rattle.history.proofs.Counts.{marks_strict}
@@ -12,7 +14,7 @@ use Rattle.history.proofs.Holds.{Known, Once, Holds}
 use Rattle.history.proofs.Steps.{quiet_apart, holds_new, holds_send, holds_receive}
 
 module _ {V : Type 0} (ev : Events) (M : Payload V) (W : ℕ → ℕ → V → Type 0) where
-  module _ (u k l : ℕ) (r : ℕ → Cell V) (e : ev u k ≡ Some (mark l)) (h : Holds ev M.start W u k r) (x : W u k (M.make r u l)) where
+  module _ (u k l : ℕ) (r : ℕ → Cell V) (e : ev u k ≡ Some (Mark l)) (h : Holds ev M.start W u k r) (x : W u k (M.make r u l)) where
     mark_last : (v p : ℕ) → Past ev v p u (suc k) → Upto ev v p u k
     mark_last v p g = past_quiet ev (λ m y. cc) g
 
@@ -39,7 +41,7 @@ module _ {V : Type 0} (ev : Events) (M : Payload V) (W : ℕ → ℕ → V → T
     holds_mark = grind (arith, nat_tests, mark_own, truthful_own, truthful_old, mark_last, quiet_apart)
 
   -- Every row holds, if each mark of a row that holds is worth what it should be.
-  pub rows_hold : Once ev → ((u k l : ℕ) (r : ℕ → Cell V) → ev u k ≡ Some (mark l) → Holds ev M.start W u k r → W u k (M.make r u l)) →
+  pub rows_hold : Once ev → ((u k l : ℕ) (r : ℕ → Cell V) → ev u k ≡ Some (Mark l) → Holds ev M.start W u k r → W u k (M.make r u l)) →
       {u i : ℕ} {r : ℕ → Cell V} → Row M ev u i r → Holds ev M.start W u i r
   rows_hold once w {u} {i} {r} (new e f) = subst₂ (λ a b. Holds ev M.start W u a b) (sym e) (sym f) (holds_new ev M W u)
   rows_hold once w {u} {i} {r} (sent k m e s d) = subst (λ a. Holds ev M.start W u a r) (sym e) (holds_send ev M W u k m r s (rows_hold once w d))

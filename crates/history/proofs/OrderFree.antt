@@ -3,7 +3,8 @@ use Rattle.std.proofs.Common.{◌≡◌, ℕ, List, [], ◌∷◌, ◌++◌, map
 use mathlib.Core.Path.{fun_ext}
 use Rattle.history.specs.Events.{Logs, at}
 use Rattle.history.specs.Rows.{Payload}
-use Rattle.history.specs.Runs.{Size, Call, SameByUnit}
+use Rattle.history.specs.Runs.{Size, SameByUnit}
+use Rattle.history.specs.declared.calls.Call.{Call}
 use Rattle.history.specs.Board.{State, History, run, accepted}
 use Rattle.history.specs.Laws.{SameHistory, OrderFree, RunsOrderFree}
 use Rattle.history.proofs.Unique.{row_one}

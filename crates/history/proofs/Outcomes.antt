@@ -5,8 +5,10 @@ use Rattle.std.proofs.lemmas.List.{map_push}
 use mathlib.Core.List.{append-nil, append_assoc}
 use Rattle.history.specs.declared.refusals.Refusal.{Refusal}
 use Rattle.history.specs.Rows.{Payload}
-use Rattle.history.specs.Runs.{Size, Call, grown}
-use Rattle.history.specs.Board.{History, Answer, Reply, reply, new_history, refusal, outcomes_from, acted, run_from}
+use Rattle.history.specs.Runs.{Size, grown}
+use Rattle.history.specs.declared.calls.Call.{Call}
+use Rattle.history.specs.Board.{History, Reply, reply, new_history, refusal, outcomes_from, acted, run_from}
+use Rattle.history.specs.declared.calls.Answer.{Answer}
 use Rattle.history.specs.Laws.{answers_of, OutcomesTold}
 use Rattle.history.proofs.Runs.{taken, after_taken, after_refused, by_calls}
 
@@ -26,13 +28,13 @@ module _ {V : Type 0} (M : Payload V) (z : Size) (u : ℕ) where
   abbrev Says : History V → List Call → Type 0
   Says h cs = answers_in (run_from M z h cs) ≡ answers_in h ++ answers_of u cs (outcomes_from M z h.state cs)
 
-  took : (h : History V) (c : Call) (cs : List Call) → refusal M z h.state c.unit c.act ≡ None → Says (taken M z h c) cs → Says h (c ∷ cs)
+  took : (h : History V) (c : Call) (cs : List Call) → refusal M z h.state c.unit c.event ≡ None → Says (taken M z h c) cs → Says h (c ∷ cs)
   took h c cs e ih =
       ap (λ (g : History V). answers_in (run_from M z g cs)) (after_taken M z h c e)
       ∙ ih
-      ∙ rw e (grown_answers h.told c.unit (reply M z c.unit c.act (h.state.rows c.unit) ((acted M z h.state c.unit c.act).rows c.unit)) (answers_of u cs (outcomes_from M z (acted M z h.state c.unit c.act) cs)))
+      ∙ rw e (grown_answers h.told c.unit (reply M z c.unit c.event (h.state.rows c.unit) ((acted M z h.state c.unit c.event).rows c.unit)) (answers_of u cs (outcomes_from M z (acted M z h.state c.unit c.event) cs)))
 
-  turned : (h : History V) (c : Call) (cs : List Call) (x : Refusal) → refusal M z h.state c.unit c.act ≡ Some x → Says h cs → Says h (c ∷ cs)
+  turned : (h : History V) (c : Call) (cs : List Call) (x : Refusal) → refusal M z h.state c.unit c.event ≡ Some x → Says h cs → Says h (c ∷ cs)
   turned h c cs x e ih = ap (λ (g : History V). answers_in (run_from M z g cs)) (after_refused M z h c x e) ∙ ih ∙ rw e refl
 
   outcomes_say : (h : History V) (cs : List Call) → Says h cs

@@ -1,13 +1,14 @@
 -- What is in the past of a unit at a time.
 use Rattle.std.proofs.Common.{◌≡◌, ℕ, suc, ◌<◌, ◌≤◌, ◌⊎◌, Some, sym, subst, inl, inr, arith}
 use Rattle.std.proofs.lemmas.Bool.{cases_lt}
-use Rattle.history.specs.Events.{Events, send, receive}
+use Rattle.history.specs.Events.{Events}
+use Rattle.history.specs.declared.calls.Event.TheVariants.{Receive, Send}
 use Rattle.history.specs.HappenedBefore.{Here}
 
 -- The event at place (v, j) is among the first i events of u, or is before one of these.
 pub data Past (ev : Events) (v j : ℕ) : ℕ → ℕ → Type 0 where
   own : {u i : ℕ} → u ≡ v → j < i → Past ev v j u i
-  got : {u i : ℕ} (k m w l : ℕ) → k < i → ev u k ≡ Some (receive m) → ev w l ≡ Some (send m) → Past ev v j w (suc l) → Past ev v j u i
+  got : {u i : ℕ} (k m w l : ℕ) → k < i → ev u k ≡ Some (Receive m) → ev w l ≡ Some (Send m) → Past ev v j w (suc l) → Past ev v j u i
 
 -- one place is another, or in its past
 abbrev pub Upto : Events → ℕ → ℕ → ℕ → ℕ → Type 0
@@ -15,7 +16,7 @@ Upto ev v p w q = Here v p w q ⊎ Past ev v p w q
 
 -- known before the event at (u, i), or through the message that it receives
 abbrev pub Strict : Events → ℕ → ℕ → ℕ → ℕ → Type 0
-Strict ev v j u i = Past ev v j u i ⊎ ((m w l : ℕ) × (ev u i ≡ Some (receive m)) × (ev w l ≡ Some (send m)) × Past ev v j w (suc l))
+Strict ev v j u i = Past ev v j u i ⊎ ((m w l : ℕ) × (ev u i ≡ Some (Receive m)) × (ev w l ≡ Some (Send m)) × Past ev v j w (suc l))
 
 module _ (ev : Events) where
   pub past_more : {v j u i : ℕ} (h : ℕ) → i ≤ h → Past ev v j u i → Past ev v j u h
@@ -37,8 +38,8 @@ module _ (ev : Events) where
   -- what one more event of u brings
   pub past_last : {v j u i : ℕ} → Past ev v j u (suc i) → Here v j u i ⊎ Strict ev v j u i
   past_last {v} {j} {u} {i} (own e lt) = elim (cases_lt j i) [ inl h ↦ inr (inl (own e h)) | inr h ↦ inl (sym e, omega arith) ]
-  past_last {v} {j} {u} {i} (got k m w l lt r s p) = elim (cases_lt k i) [ inl h ↦ inr (inl (got k m w l h r s p)) | inr h ↦ inr (inr (m, w, l, subst (λ a. ev u a ≡ Some (receive m)) (omega arith) r, s, p)) ]
+  past_last {v} {j} {u} {i} (got k m w l lt r s p) = elim (cases_lt k i) [ inl h ↦ inr (inl (got k m w l h r s p)) | inr h ↦ inr (inr (m, w, l, subst (λ a. ev u a ≡ Some (Receive m)) (omega arith) r, s, p)) ]
 
   -- an event that is no receipt brings itself alone
-  pub past_quiet : {v j u i : ℕ} → ((m : ℕ) → ev u i ≡ Some (receive m) → ⊥) → Past ev v j u (suc i) → Upto ev v j u i
+  pub past_quiet : {v j u i : ℕ} → ((m : ℕ) → ev u i ≡ Some (Receive m) → ⊥) → Past ev v j u (suc i) → Upto ev v j u i
   past_quiet q p = grind (arith, past_last)

@@ -4,7 +4,9 @@ use Rattle.std.specs.Result.{result_err, result_unwrap_or}
 use Rattle.history.specs.declared.messages.Post.{Post}
 use Rattle.history.specs.declared.messages.Post.TheVariants.{Unsent, OnItsWay, Delivered}
 use Rattle.history.specs.declared.messages.Handling.TheVariants.{Sending, Receiving}
-use Rattle.history.specs.Events.{Event, Events, Logs, at, send, receive, Sent, Received}
+use Rattle.history.specs.Events.{Events, Logs, at, Sent, Received}
+use Rattle.history.specs.declared.calls.Event.TheVariants.{Receive, Send}
+use Rattle.history.specs.declared.calls.Event.{Event}
 use Rattle.history.specs.Messages.{moved, travels, Stated}
 use Rattle.history.specs.Runs.{grown}
 use Rattle.history.proofs.Logs.{grown_here, grown_keeps, grown_cases}
@@ -36,16 +38,16 @@ module _ (logs : Logs) (u : ℕ) (x : Event) where
   adds_none e d n (w, i, p) = grind (arith, grown_cases logs u x w i e, n)
 
   -- an event that does not concern the message
-  pub stated_other : (m : ℕ) (p : Post) → (x ≡ send m → ⊥) → (x ≡ receive m → ⊥) → Stated (at logs) m p → Stated (at (grown logs u x)) m p
-  stated_other m p a b s = grind (arith, keeps (send m), keeps (receive m), adds_none (send m) a, adds_none (receive m) b)
+  pub stated_other : (m : ℕ) (p : Post) → (x ≡ Send m → ⊥) → (x ≡ Receive m → ⊥) → Stated (at logs) m p → Stated (at (grown logs u x)) m p
+  stated_other m p a b s = grind (arith, keeps (Send m), keeps (Receive m), adds_none (Send m) a, adds_none (Receive m) b)
 
 module _ (logs : Logs) (u m : ℕ) where
-  pub stated_sent : (p : Post) → result_err (moved p Sending) ≡ None → Stated (at logs) m p → Stated (at (grown logs u (send m))) m (result_unwrap_or (moved p Sending) p)
-  stated_sent Unsent e s = ((u, length (logs u), grown_here logs u (send m)), adds_none logs u (send m) (receive m) (λ e. cc) s.1)
+  pub stated_sent : (p : Post) → result_err (moved p Sending) ≡ None → Stated (at logs) m p → Stated (at (grown logs u (Send m))) m (result_unwrap_or (moved p Sending) p)
+  stated_sent Unsent e s = ((u, length (logs u), grown_here logs u (Send m)), adds_none logs u (Send m) (Receive m) (λ e. cc) s.1)
   stated_sent OnItsWay e s = cc
   stated_sent Delivered e s = cc
 
-  pub stated_received : (p : Post) → result_err (moved p Receiving) ≡ None → Stated (at logs) m p → Stated (at (grown logs u (receive m))) m (result_unwrap_or (moved p Receiving) p)
+  pub stated_received : (p : Post) → result_err (moved p Receiving) ≡ None → Stated (at logs) m p → Stated (at (grown logs u (Receive m))) m (result_unwrap_or (moved p Receiving) p)
   stated_received Unsent e s = cc
-  stated_received OnItsWay e s = (keeps logs u (receive m) (send m) s.0, (u, length (logs u), grown_here logs u (receive m)))
+  stated_received OnItsWay e s = (keeps logs u (Receive m) (Send m) s.0, (u, length (logs u), grown_here logs u (Receive m)))
   stated_received Delivered e s = cc

@@ -1,6 +1,7 @@
 -- The past and what is before.
 use Rattle.std.proofs.Common.{ℕ, suc, ◌≤◌, sym, refl, inl, inr, arith}
-use Rattle.history.specs.Events.{Events, send, receive, mark, Stands}
+use Rattle.history.specs.Events.{Events, Stands}
+use Rattle.history.specs.declared.calls.Event.TheVariants.{Mark, Receive, Send}
 use Rattle.history.specs.Marks.{IsMark}
 use Rattle.history.specs.HappenedBefore.{Before, earlier, message, chain, UpTo, Immediate}
 use Rattle.history.proofs.Past.{Past, Strict, own, got, past_more, past_through}
@@ -31,14 +32,14 @@ module _ (ev : Events) where
 
   past_upto : {v j u h : ℕ} → Stands ev v j → (i : ℕ) → h ≤ suc i → Stands ev u i → Past ev v j u h → UpTo ev v j u i
   past_upto a i le b (own e lt) = grind (arith, earlier)
-  past_upto a i le b (got k m w l lt r s p) = inr (before_later (omega arith) (receive m, r) b (upto_before (past_upto a l (omega arith) (send m, s) p) (message m s r)))
+  past_upto a i le b (got k m w l lt r s p) = inr (before_later (omega arith) (Receive m, r) b (upto_before (past_upto a l (omega arith) (Send m, s) p) (message m s r)))
 
   pub past_before : (v j u i : ℕ) → Stands ev v j → Stands ev u i → Past ev v j u i → Before ev v j u i
   past_before v j u i a b (own e lt) = earlier (sym e) lt a b
-  past_before v j u i a b (got k m w l lt r s p) = chain u k (upto_before (past_upto a l (omega arith) (send m, s) p) (message m s r)) (earlier refl lt (receive m, r) b)
+  past_before v j u i a b (got k m w l lt r s p) = chain u k (upto_before (past_upto a l (omega arith) (Send m, s) p) (message m s r)) (earlier refl lt (Receive m, r) b)
 
   pub stands : (v p : ℕ) → IsMark ev v p → Stands ev v p
-  stands v p (l, e) = (mark l, e)
+  stands v p (l, e) = (Mark l, e)
 
   pub top_immediate : (v p u k : ℕ) → IsMark ev u k → Top ev (Known ev u k) v p → Immediate ev v p u k
   top_immediate v p u k m t = grind (arith, past_before, before_past)

@@ -2,7 +2,8 @@
 use Rattle.std.proofs.Common.{◌≡◌, List, [], ◌∷◌, ◌++◌, Some, None, Option, refl}
 use Rattle.history.specs.declared.refusals.Refusal.{Refusal}
 use Rattle.history.specs.Rows.{Payload}
-use Rattle.history.specs.Runs.{Size, Call, grown}
+use Rattle.history.specs.Runs.{Size, grown}
+use Rattle.history.specs.declared.calls.Call.{Call}
 use Rattle.history.specs.Board.{History, new_history, refusal, acted, reply, after, run_from, run}
 use Rattle.history.proofs.Sound.{Sound, sound_new}
 use Rattle.history.proofs.Kept.{sound_accepted}
@@ -11,31 +12,31 @@ module _ {V : Type 0} (M : Payload V) (z : Size) where
   -- the history after an accepted call
   abbrev pub taken : History V → Call → History V
   taken h c = record {
-    state = acted M z h.state c.unit c.act;
-    log = grown h.log c.unit c.act;
-    told = grown h.told c.unit (reply M z c.unit c.act (h.state.rows c.unit) ((acted M z h.state c.unit c.act).rows c.unit));
+    state = acted M z h.state c.unit c.event;
+    log = grown h.log c.unit c.event;
+    told = grown h.told c.unit (reply M z c.unit c.event (h.state.rows c.unit) ((acted M z h.state c.unit c.event).rows c.unit));
   }
 
-  pub after_taken : (h : History V) (c : Call) → refusal M z h.state c.unit c.act ≡ None → after M z h c ≡ taken h c
+  pub after_taken : (h : History V) (c : Call) → refusal M z h.state c.unit c.event ≡ None → after M z h c ≡ taken h c
   after_taken h c e = rw e refl
 
-  pub after_refused : (h : History V) (c : Call) (x : Refusal) → refusal M z h.state c.unit c.act ≡ Some x → after M z h c ≡ h
+  pub after_refused : (h : History V) (c : Call) (x : Refusal) → refusal M z h.state c.unit c.event ≡ Some x → after M z h c ≡ h
   after_refused h c x e = rw e refl
 
   -- each call is accepted or refused
   module _ (P : History V → List Call → Type 0) (none : (h : History V) → P h [])
-      (took : (h : History V) (c : Call) (cs : List Call) → refusal M z h.state c.unit c.act ≡ None → P (taken h c) cs → P h (c ∷ cs))
-      (turned : (h : History V) (c : Call) (cs : List Call) (x : Refusal) → refusal M z h.state c.unit c.act ≡ Some x → P h cs → P h (c ∷ cs)) where
+      (took : (h : History V) (c : Call) (cs : List Call) → refusal M z h.state c.unit c.event ≡ None → P (taken h c) cs → P h (c ∷ cs))
+      (turned : (h : History V) (c : Call) (cs : List Call) (x : Refusal) → refusal M z h.state c.unit c.event ≡ Some x → P h cs → P h (c ∷ cs)) where
     pub by_calls : (h : History V) (cs : List Call) → P h cs
     by_calls h [] = none h
-    by_calls h (c ∷ cs) = go (refusal M z h.state c.unit c.act) refl (by_calls (taken h c) cs) (by_calls h cs)
+    by_calls h (c ∷ cs) = go (refusal M z h.state c.unit c.event) refl (by_calls (taken h c) cs) (by_calls h cs)
       where
-        go : (o : Option Refusal) → refusal M z h.state c.unit c.act ≡ o → P (taken h c) cs → P h cs → P h (c ∷ cs)
+        go : (o : Option Refusal) → refusal M z h.state c.unit c.event ≡ o → P (taken h c) cs → P h cs → P h (c ∷ cs)
         go None e next same = took h c cs e next
         go (Some x) e next same = turned h c cs x e same
 
   -- what accepted calls keep, a run keeps
-  pub run_keeps : (P : History V → Type 0) → ((h : History V) (c : Call) → P h → refusal M z h.state c.unit c.act ≡ None → P (taken h c))
+  pub run_keeps : (P : History V → Type 0) → ((h : History V) (c : Call) → P h → refusal M z h.state c.unit c.event ≡ None → P (taken h c))
       → (h : History V) (cs : List Call) → P h → P (run_from M z h cs)
   run_keeps P keeps =
       by_calls (λ h cs. P h → P (run_from M z h cs)) (λ h p. p) (λ h c cs e next p. rw e (next (keeps h c p e))) (λ h c cs x e same p. rw e (same p))
@@ -43,8 +44,8 @@ module _ {V : Type 0} (M : Payload V) (z : Size) where
   abbrev pub SoundAt : History V → Type 0
   SoundAt h = Sound M z h.state h.log
 
-  pub sound_taken : (h : History V) (c : Call) → SoundAt h → refusal M z h.state c.unit c.act ≡ None → SoundAt (taken h c)
-  sound_taken h c s e = sound_accepted M z h.state h.log s c.unit c.act e
+  pub sound_taken : (h : History V) (c : Call) → SoundAt h → refusal M z h.state c.unit c.event ≡ None → SoundAt (taken h c)
+  sound_taken h c s e = sound_accepted M z h.state h.log s c.unit c.event e
 
   pub sound_run : (cs : List Call) → SoundAt (run M z cs)
   sound_run cs = run_keeps SoundAt sound_taken (new_history M) cs (sound_new M z)

@@ -1,8 +1,11 @@
 -- What a run keeps: its state is what its logs say.
 use Rattle.std.proofs.Common.{◌≡◌, ℕ, suc, ◌<◌, true, length, Some, arith}
-use Rattle.history.specs.Events.{Event, Events, Logs, at, send, mark, Sent}
+use Rattle.history.specs.Events.{Events, Logs, at, Sent}
+use Rattle.history.specs.declared.calls.Event.TheVariants.{Mark, Send}
+use Rattle.history.specs.declared.calls.Event.{Event}
 use Rattle.history.specs.Messages.{Stated}
-use Rattle.history.specs.Rows.{Payload, Cell, new_row}
+use Rattle.history.specs.Rows.{Payload, new_row}
+use Rattle.history.specs.declared.cells.Cell.{Cell}
 use Rattle.history.specs.Runs.{Size, silence, grown}
 use Rattle.history.specs.Board.{State, new_state}
 use Rattle.history.proofs.RowOf.{Row, new, sent, received, marked}
@@ -11,14 +14,14 @@ use Rattle.history.proofs.Logs.{grown_length, grown_keeps, grown_cases}
 
 -- Marks are made by units of the board, with labels that fit.
 pub record Ranged (ev : Events) (z : Size) : Type 0 where
-  pub unit : (v p l : ℕ) → ev v p ≡ Some (mark l) → v < z.units
-  pub label : (v p l : ℕ) → ev v p ≡ Some (mark l) → z.fits v l ≡ true
+  pub unit : (v p l : ℕ) → ev v p ≡ Some (Mark l) → v < z.units
+  pub label : (v p l : ℕ) → ev v p ≡ Some (Mark l) → z.fits v l ≡ true
 
 pub record Sound {V : Type 0} (M : Payload V) (z : Size) (s : State V) (logs : Logs) : Type 0 where
   -- each unit's row is the row after its events
   pub rows_are : (u : ℕ) → Row M (at logs) u (length (logs u)) (s.rows u)
   -- a message's row is that of its sender at the send, or new
-  pub sent_row : (m w j : ℕ) → at logs w j ≡ Some (send m) → Row M (at logs) w j (s.message_rows m)
+  pub sent_row : (m w j : ℕ) → at logs w j ≡ Some (Send m) → Row M (at logs) w j (s.message_rows m)
   pub unsent_row : (m : ℕ) → (Sent (at logs) m → ⊥) → s.message_rows m ≡ new_row M.start
   -- its state is what the events say
   pub posts_are : (m : ℕ) → Stated (at logs) m (s.posts m)
@@ -48,14 +51,14 @@ module _ {V : Type 0} (M : Payload V) (z : Size) where
     rows_grow t d rows own rest w = grind (arith, grown_length, grows)
 
     -- messages other than one that is sent now keep their rows
-    pub sent_row_grows : (m : ℕ) → (x ≡ send m → ⊥) → (w j : ℕ) → at (grown logs u x) w j ≡ Some (send m) → Row M (at (grown logs u x)) w j (s.message_rows m)
+    pub sent_row_grows : (m : ℕ) → (x ≡ Send m → ⊥) → (w j : ℕ) → at (grown logs u x) w j ≡ Some (Send m) → Row M (at (grown logs u x)) w j (s.message_rows m)
     sent_row_grows m d w j e = grind (arith, grows, grown_cases)
 
     pub unsent_before : (m : ℕ) → (Sent (at (grown logs u x)) m → ⊥) → Sent (at logs) m → ⊥
-    unsent_before m n p = n (p.0, p.1, grown_keeps logs u x p.0 p.1 (send m) p.2)
+    unsent_before m n p = n (p.0, p.1, grown_keeps logs u x p.0 p.1 (Send m) p.2)
 
-    pub once_grows : ((m : ℕ) → x ≡ send m → Sent (at logs) m → ⊥) → Once (at (grown logs u x))
+    pub once_grows : ((m : ℕ) → x ≡ Send m → Sent (at logs) m → ⊥) → Once (at (grown logs u x))
     once_grows fresh m a i b j e f = grind (arith, grown_cases)
 
-    pub ranged_grows : u < z.units → ((l : ℕ) → x ≡ mark l → z.fits u l ≡ true) → Ranged (at (grown logs u x)) z
+    pub ranged_grows : u < z.units → ((l : ℕ) → x ≡ Mark l → z.fits u l ≡ true) → Ranged (at (grown logs u x)) z
     ranged_grows below fits = grind (arith, grown_cases)

@@ -1,11 +1,13 @@
 -- The clocks just after a mark are its stamp.
 use Rattle.std.proofs.Common.{◌≡◌, ℕ, zero, suc, ◌<◌, ◌↔◌, [], ◌∷◌, Some, refl, ap, ◌∙◌, arith}
-use Rattle.history.specs.Events.{Events, mark}
+use Rattle.history.specs.Events.{Events}
+use Rattle.history.specs.declared.calls.Event.TheVariants.{Mark}
 use Rattle.history.specs.Marks.{IsMark, marks}
 use Rattle.history.specs.HappenedBefore.{UpTo}
 use Rattle.history.specs.Counting.{HowMany}
 use Rattle.history.specs.Stamps.{Stamp}
-use Rattle.history.specs.Rows.{Payload, Cell}
+use Rattle.history.specs.Rows.{Payload}
+use Rattle.history.specs.declared.cells.Cell.{Cell}
 use Rattle.history.proofs.RowOf.{Row}
 use Rattle.history.proofs.Counts.{marks_strict}
 use Rattle.history.proofs.Past.{own, past_more, past_quiet}
@@ -26,7 +28,7 @@ numbered ev v (suc n) there = more (there n (omega arith)) (numbered ev v n (λ 
     more : (p : ℕ) × IsMark ev v p × (marks ev v p ≡ n) → HowMany (λ p. IsMark ev v p × (marks ev v p < n)) n → HowMany (λ p. IsMark ev v p × (marks ev v p < suc n)) (suc n)
     more (p, m, e) (l, x, f) = (p ∷ l, record { sound = λ q i. grind (arith, x.sound q); complete = λ q h. grind (arith, x.complete q, mark_numbered ev v q p); once = (λ d. grind (arith, x.sound p), x.once) }, ap suc f)
 
-module _ {V : Type 0} (M : Payload V) (ev : Events) (once : Once ev) (u i l : ℕ) (e : ev u i ≡ Some (mark l)) (t : ℕ → Cell V) (d : Row M ev u (suc i) t) where
+module _ {V : Type 0} (M : Payload V) (ev : Events) (once : Once ev) (u i l : ℕ) (e : ev u i ≡ Some (Mark l)) (t : ℕ → Cell V) (d : Row M ev u (suc i) t) where
   -- a mark is known just after the mark (u, i) exactly when it is this mark or before it
   known_upto : (v p : ℕ) → IsMark ev v p → marks ev v p < (t v).clock → UpTo ev v p u i
   known_upto v p m h = grind (arith, past_before, past_quiet, rows_true)

@@ -1,9 +1,11 @@
 -- Each event keeps what holds of a unit's row.
 use Rattle.std.proofs.Common.{◌≡◌, ℕ, suc, ◌≤◌, Some, refl, inl, inr, ⊎_elim, arith}
 use Rattle.std.proofs.lemmas.Bool.{cases_lt}
-use Rattle.history.specs.Events.{Events, send, receive}
+use Rattle.history.specs.Events.{Events}
+use Rattle.history.specs.declared.calls.Event.TheVariants.{Receive, Send}
 use Rattle.history.specs.Marks.{IsMark, marks}
-use Rattle.history.specs.Rows.{Payload, Cell, merge_row, new_row}
+use Rattle.history.specs.Rows.{Payload, merge_row, new_row}
+use Rattle.history.specs.declared.cells.Cell.{Cell}
 use Rattle.history.proofs.Past.{Past, own, got, past_down, past_through, past_quiet}
 use Rattle.history.proofs.Counts.{marks_strict}
 use Rattle.history.proofs.Truth.{Either, truthful_same, truthful_merge}
@@ -12,14 +14,14 @@ use Rattle.history.proofs.Holds.{Known, Once, Holds, known_closed, nothing, past
 
 module _ (ev : Events) where
   -- an event that is no receipt closes no circle
-  pub quiet_apart : (u k : ℕ) → ((m : ℕ) → ev u k ≡ Some (receive m) → ⊥) → (Past ev u k u k → ⊥) → Past ev u (suc k) u (suc k) → ⊥
+  pub quiet_apart : (u k : ℕ) → ((m : ℕ) → ev u k ≡ Some (Receive m) → ⊥) → (Past ev u k u k → ⊥) → Past ev u (suc k) u (suc k) → ⊥
   quiet_apart u k q a h = grind (arith, past_down, past_quiet)
 
   -- a receipt is not in the past of its send
-  pub receive_after : (u k m w j : ℕ) → ev u k ≡ Some (receive m) → ev w j ≡ Some (send m) → (Past ev w j w j → ⊥) → Past ev u k w j → ⊥
+  pub receive_after : (u k m w j : ℕ) → ev u k ≡ Some (Receive m) → ev w j ≡ Some (Send m) → (Past ev w j w j → ⊥) → Past ev u k w j → ⊥
   receive_after u k m w j e s a h = a (past_through ev (got k m w j (omega arith) e s (own refl (omega arith))) h)
 
-  receive_apart : Once ev → (u k m w j : ℕ) → ev u k ≡ Some (receive m) → ev w j ≡ Some (send m) → (Past ev u k u k → ⊥) → (Past ev w j w j → ⊥) → Past ev u (suc k) u (suc k) → ⊥
+  receive_apart : Once ev → (u k m w j : ℕ) → ev u k ≡ Some (Receive m) → ev w j ≡ Some (Send m) → (Past ev u k u k → ⊥) → (Past ev w j w j → ⊥) → Past ev u (suc k) u (suc k) → ⊥
   receive_apart once u k m w j e s a b h = ⊎_elim (⊎_elim (λ x. (let y = x.1 in omega arith)) (λ x. a (past_down ev k (omega arith) x))) from (past_receive ev once u k m w j e s h)
     where
       from : Past ev u (suc k) w (suc j) → ⊥
@@ -29,7 +31,7 @@ module _ {V : Type 0} (ev : Events) (M : Payload V) (W : ℕ → ℕ → V → T
   pub holds_new : (u : ℕ) → Holds ev M.start W u 0 (new_row M.start)
   holds_new u = grind (arith, nothing)
 
-  pub holds_send : (u k m : ℕ) (r : ℕ → Cell V) → ev u k ≡ Some (send m) → Holds ev M.start W u k r → Holds ev M.start W u (suc k) r
+  pub holds_send : (u k m : ℕ) (r : ℕ → Cell V) → ev u k ≡ Some (Send m) → Holds ev M.start W u k r → Holds ev M.start W u (suc k) r
   holds_send u k m r e h = record {
     cells = λ v. truthful_same ev M W (Known ev u k) (Known ev u (suc k)) (send_same ev u k m e) v (r v) (h.cells v);
     cover = cover_same ev (Known ev u k) (Known ev u (suc k)) (send_same ev u k m e) h.cover;
@@ -37,7 +39,7 @@ module _ {V : Type 0} (ev : Events) (M : Payload V) (W : ℕ → ℕ → V → T
     apart = quiet_apart ev u k (λ m' x. cc) h.apart;
   }
 
-  pub holds_receive : Once ev → (u k m w j : ℕ) (p q : ℕ → Cell V) → ev u k ≡ Some (receive m) → ev w j ≡ Some (send m) →
+  pub holds_receive : Once ev → (u k m w j : ℕ) (p q : ℕ → Cell V) → ev u k ≡ Some (Receive m) → ev w j ≡ Some (Send m) →
       Holds ev M.start W u k p → Holds ev M.start W w j q → Holds ev M.start W u (suc k) (merge_row M.start p q)
   holds_receive once u k m w j p q e s h g = record {
     cells = λ v. truthful_same ev M W (Either (Known ev u k) (Known ev w j)) (Known ev u (suc k)) (receive_same ev once u k m w j e s) v (merge_row M.start p q v)

@@ -3,9 +3,12 @@ use Rattle.std.proofs.Common.{◌≡◌, ℕ, suc, ◌<◌, List, length, get_or
 use Rattle.std.specs.List.{slice_get}
 use Rattle.std.proofs.lemmas.List.{same_lists}
 use Rattle.std.proofs.lemmas.Option.{slice_get_cases, get_or_from_slice_get}
-use Rattle.history.specs.Events.{Event, Logs, at}
-use Rattle.history.specs.Rows.{Payload, Cell}
-use Rattle.history.specs.Runs.{Size, Call, silence, grown}
+use Rattle.history.specs.Events.{Logs, at}
+use Rattle.history.specs.declared.calls.Event.{Event}
+use Rattle.history.specs.Rows.{Payload}
+use Rattle.history.specs.declared.cells.Cell.{Cell}
+use Rattle.history.specs.Runs.{Size, silence, grown}
+use Rattle.history.specs.declared.calls.Call.{Call}
 use Rattle.history.specs.Board.{Reply, History, new_history, refusal, acted, reply, run}
 use Rattle.history.proofs.RowOf.{Row}
 use Rattle.history.proofs.Holds.{Once}
@@ -29,42 +32,42 @@ module _ {V : Type 0} (M : Payload V) (z : Size) where
   said_new : Said M z silence silence
   said_new = grind arith
 
-  module _ (h : History V) (c : Call) (s : SoundAt M z h) (d : Said M z h.log h.told) (ok : refusal M z h.state c.unit c.act ≡ None) where
+  module _ (h : History V) (c : Call) (s : SoundAt M z h) (d : Said M z h.log h.told) (ok : refusal M z h.state c.unit c.event ≡ None) where
     rows : ℕ → Cell V
-    rows = (acted M z h.state c.unit c.act).rows c.unit
+    rows = (acted M z h.state c.unit c.event).rows c.unit
 
     answer : Reply V
-    answer = reply M z c.unit c.act (h.state.rows c.unit) rows
+    answer = reply M z c.unit c.event (h.state.rows c.unit) rows
 
     Says : ℕ → ℕ → Event → Type 0
     Says w i x =
-        (r t : ℕ → Cell V) × Row M (at (grown h.log c.unit c.act)) w i r × Row M (at (grown h.log c.unit c.act)) w (suc i) t
+        (r t : ℕ → Cell V) × Row M (at (grown h.log c.unit c.event)) w i r × Row M (at (grown h.log c.unit c.event)) w (suc i) t
         × (at (grown h.told c.unit answer) w i ≡ Some (reply M z w x r t))
 
     says_before : (w i : ℕ) (x : Event) → at h.log w i ≡ Some x → Says w i x
     unfolding Says
     says_before w i x p =
         let (r, t, y, g, q) = d.says w i x p in
-        (r, t, grows M z h.state h.log s c.unit c.act y, grows M z h.state h.log s c.unit c.act g, grown_keeps h.told c.unit answer w i _ q)
+        (r, t, grows M z h.state h.log s c.unit c.event y, grows M z h.state h.log s c.unit c.event g, grown_keeps h.told c.unit answer w i _ q)
 
-    says_now : Says c.unit (length (h.log c.unit)) c.act
+    says_now : Says c.unit (length (h.log c.unit)) c.event
     unfolding Says answer rows
     says_now = (
       h.state.rows c.unit,
       rows,
-      grows M z h.state h.log s c.unit c.act (s.rows_are c.unit),
-      subst (λ (k : ℕ). Row M (at (grown h.log c.unit c.act)) c.unit k rows) (grown_length h.log c.unit c.act) ((sound_accepted M z h.state h.log s c.unit c.act ok).rows_are c.unit),
+      grows M z h.state h.log s c.unit c.event (s.rows_are c.unit),
+      subst (λ (k : ℕ). Row M (at (grown h.log c.unit c.event)) c.unit k rows) (grown_length h.log c.unit c.event) ((sound_accepted M z h.state h.log s c.unit c.event ok).rows_are c.unit),
       subst (λ (k : ℕ). at (grown h.told c.unit answer) c.unit k ≡ Some answer) (d.as_long c.unit) (grown_here h.told c.unit answer),
     )
 
-    as_long_now : (w : ℕ) → length (grown h.told c.unit answer w) ≡ length (grown h.log c.unit c.act w)
+    as_long_now : (w : ℕ) → length (grown h.told c.unit answer w) ≡ length (grown h.log c.unit c.event w)
     as_long_now w = grind (arith, grown_length, grown_other)
 
     pub said_accepted : Said M z (taken M z h c).log (taken M z h c).told
     unfolding Says answer rows
     said_accepted = record {
       as_long = as_long_now;
-      says = λ w i x p. ⊎_elim (λ q. rw (q.0, q.1, ← q.2) says_now) (says_before w i x) (grown_cases h.log c.unit c.act w i x p);
+      says = λ w i x p. ⊎_elim (λ q. rw (q.0, q.1, ← q.2) says_now) (says_before w i x) (grown_cases h.log c.unit c.event w i x p);
     }
 
   -- a sound history that has said what its rows say
@@ -73,7 +76,7 @@ module _ {V : Type 0} (M : Payload V) (z : Size) where
 
   pub said_run : (cs : List Call) → Said M z (run M z cs).log (run M z cs).told
   said_run cs =
-      (run_keeps M z SaidAt (λ h c s e. (sound_accepted M z h.state h.log s.0 c.unit c.act e, said_accepted h c s.0 s.1 e)) (new_history M) cs (sound_new M z, said_new)).1
+      (run_keeps M z SaidAt (λ h c s e. (sound_accepted M z h.state h.log s.0 c.unit c.event e, said_accepted h c s.0 s.1 e)) (new_history M) cs (sound_new M z, said_new)).1
 
   -- the logs tell all replies
   pub same_told : (logs : Logs) (a b : ℕ → List (Reply V)) → Once (at logs) → Said M z logs a → Said M z logs b → (u : ℕ) → a u ≡ b u

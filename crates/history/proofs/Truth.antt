@@ -3,7 +3,8 @@ use Rattle.std.proofs.Common.{◌≡◌, ℕ, suc, ◌<◌, true, false, ◌⊎�
 use Rattle.std.proofs.lemmas.Bool.{cases_order}
 use Rattle.history.specs.Events.{Events}
 use Rattle.history.specs.Marks.{IsMark, marks}
-use Rattle.history.specs.Rows.{Payload, Cell, merged_cell, even_cell}
+use Rattle.history.specs.Rows.{Payload, merged_cell, even_cell}
+use Rattle.history.specs.declared.cells.Cell.{Cell}
 use Rattle.history.proofs.Past.{Past, own}
 use Rattle.history.proofs.Counts.{marks_mono}
 

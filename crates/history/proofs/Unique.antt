@@ -1,7 +1,9 @@
 -- A unit has one row after its first i events.
 use Rattle.std.proofs.Common.{◌≡◌, ℕ, suc, Some, sym, ap, ◌∙◌, subst, ap₂, subst₂, arith}
-use Rattle.history.specs.Events.{Events, send, receive, mark}
-use Rattle.history.specs.Rows.{Payload, Cell, new_row, merge_row, mark_row}
+use Rattle.history.specs.Events.{Events}
+use Rattle.history.specs.declared.calls.Event.TheVariants.{Mark, Receive, Send}
+use Rattle.history.specs.Rows.{Payload, new_row, merge_row, mark_row}
+use Rattle.history.specs.declared.cells.Cell.{Cell}
 use Rattle.history.proofs.RowOf.{Row, new, sent, received, marked}
 use Rattle.history.proofs.Holds.{Once}
 
@@ -9,10 +11,10 @@ module _ {V : Type 0} (M : Payload V) (ev : Events) where
   row_zero : (u k : ℕ) → k ≡ 0 → {t : ℕ → Cell V} → Row M ev u k t → t ≡ new_row M.start
   row_zero u k f d = grind arith
 
-  pub after_send : (u i m : ℕ) → ev u i ≡ Some (send m) → (k : ℕ) → k ≡ suc i → {t : ℕ → Cell V} → Row M ev u k t → Row M ev u i t
+  pub after_send : (u i m : ℕ) → ev u i ≡ Some (Send m) → (k : ℕ) → k ≡ suc i → {t : ℕ → Cell V} → Row M ev u k t → Row M ev u i t
   after_send u i m e k f d = grind arith
 
-  pub after_mark : (u i l : ℕ) → ev u i ≡ Some (mark l) → (k : ℕ) → k ≡ suc i → {t : ℕ → Cell V} → Row M ev u k t → (r : ℕ → Cell V) × Row M ev u i r × (t ≡ mark_row M u l r)
+  pub after_mark : (u i l : ℕ) → ev u i ≡ Some (Mark l) → (k : ℕ) → k ≡ suc i → {t : ℕ → Cell V} → Row M ev u k t → (r : ℕ → Cell V) × Row M ev u i r × (t ≡ mark_row M u l r)
   after_mark u i l e k f (new a b) = absurd (omega arith)
   after_mark u i l e k f (sent j m a b d) = cc
   after_mark u i l e k f (received j m w x p q a b c d g s) = cc
@@ -20,13 +22,13 @@ module _ {V : Type 0} (M : Payload V) (ev : Events) where
       (p, subst (λ h. Row M ev u h p) (omega arith) d, s ∙ ap (λ h. mark_row M u h p) (cc))
 
   module _ (once : Once ev) where
-    pub after_receive : (u i m w x : ℕ) → ev u i ≡ Some (receive m) → ev w x ≡ Some (send m) → (k : ℕ) → k ≡ suc i → {t : ℕ → Cell V} → Row M ev u k t →
+    pub after_receive : (u i m w x : ℕ) → ev u i ≡ Some (Receive m) → ev w x ≡ Some (Send m) → (k : ℕ) → k ≡ suc i → {t : ℕ → Cell V} → Row M ev u k t →
         (p q : ℕ → Cell V) × Row M ev u i p × Row M ev w x q × (t ≡ merge_row M.start p q)
     after_receive u i m w x e s k f (new a b) = absurd (omega arith)
     after_receive u i m w x e s k f (sent j m' a b d) = cc
     after_receive u i m w x e s k f (received j m' w' x' p q a b c d g y) =
         let o : m' ≡ m = cc in
-        let (h, l) = once m w' x' w x (subst (λ v. ev w' x' ≡ Some (send v)) o c) s in
+        let (h, l) = once m w' x' w x (subst (λ v. ev w' x' ≡ Some (Send v)) o c) s in
         (p, q, subst (λ v. Row M ev u v p) (omega arith) d, subst₂ (λ v y. Row M ev v y q) h l g, y)
     after_receive u i m w x e s k f (marked j c p a b d y) = cc
 

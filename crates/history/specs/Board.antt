@@ -7,11 +7,17 @@ use Rattle.history.specs.declared.messages.Post.TheVariants.{Unsent}
 use Rattle.history.specs.declared.messages.Handling.TheVariants.{Sending, Receiving}
 use Rattle.history.specs.declared.refusals.Refusal.{Refusal}
 use Rattle.history.specs.declared.refusals.Refusal.TheVariants.{NoSuchUnit, NoSuchMessage, NoSuchLabel, ClockFull}
-use Rattle.history.specs.Events.{Event, send, receive, mark, Logs}
+use Rattle.history.specs.Events.{Logs}
+use Rattle.history.specs.declared.calls.Event.TheVariants.{Mark, Receive, Send}
+use Rattle.history.specs.declared.calls.Event.{Event}
+use Rattle.history.specs.declared.calls.Answer.{Answer}
+use Rattle.history.specs.declared.calls.Answer.TheVariants.{Sent, Received, Marked}
 use Rattle.history.specs.Messages.{moved}
 use Rattle.history.specs.Refusals.{ask}
-use Rattle.history.specs.Rows.{Cell, Payload, put, new_row, merge_row, mark_row}
-use Rattle.history.specs.Runs.{Size, Call, silence, grown}
+use Rattle.history.specs.Rows.{Payload, put, new_row, merge_row, mark_row}
+use Rattle.history.specs.declared.cells.Cell.{Cell}
+use Rattle.history.specs.Runs.{Size, silence, grown}
+use Rattle.history.specs.declared.calls.Call.{Call}
 
 -- What a board shows: the row of each unit, the row of each message, and what became of each message.
 pub record State (V : Type 0) : Type 0 where
@@ -19,10 +25,15 @@ pub record State (V : Type 0) : Type 0 where
   pub message_rows : ℕ → ℕ → Cell V
   pub posts : ℕ → Post
 
--- What an accepted call is told: the unit's own clock; for a mark also the set of the units whose flag was yes, and the mark's value.
-pub data Answer (V : Type 0) : Type 0 where
-  own_clock : ℕ → Answer V
-  marked : ℕ → ℕ → V → Answer V
+-- what an accepted mark is answered
+abbrev pub mark_answer : {V : Type 0} → ℕ → ℕ → V → Answer V
+mark_answer clock predecessors value = Marked (record { clock = clock; predecessors = predecessors; value = value })
+
+-- an answer with another value in the place of a mark's
+abbrev pub answer_map : {V W : Type 0} → (V → W) → Answer V → Answer W
+answer_map f (Sent clock) = Sent clock
+answer_map f (Received clock) = Received clock
+answer_map f (Marked m) = mark_answer m.clock m.predecessors (f m.value)
 
 -- the answer to an accepted call, and the unit's clocks just after it
 pub record Reply (V : Type 0) : Type 0 where
@@ -57,22 +68,22 @@ module _ {V : Type 0} (M : Payload V) where
   module _ (z : Size) where
     -- The questions of each call in their order; the first no gives the refusal.
     abbrev pub refusal : State V → ℕ → Event → Option Refusal
-    refusal s u (send m) = ask (nat_lt u z.units) NoSuchUnit (ask (nat_lt m z.messages) NoSuchMessage (result_err (moved (s.posts m) Sending)))
-    refusal s u (receive m) = ask (nat_lt u z.units) NoSuchUnit (ask (nat_lt m z.messages) NoSuchMessage (result_err (moved (s.posts m) Receiving)))
-    refusal s u (mark l) = ask (nat_lt u z.units) NoSuchUnit (ask (z.fits u l) NoSuchLabel (ask (nat_lt (s.rows u u).clock z.limit) ClockFull None))
+    refusal s u (Send m) = ask (nat_lt u z.units) NoSuchUnit (ask (nat_lt m z.messages) NoSuchMessage (result_err (moved (s.posts m) Sending)))
+    refusal s u (Receive m) = ask (nat_lt u z.units) NoSuchUnit (ask (nat_lt m z.messages) NoSuchMessage (result_err (moved (s.posts m) Receiving)))
+    refusal s u (Mark l) = ask (nat_lt u z.units) NoSuchUnit (ask (z.fits u l) NoSuchLabel (ask (nat_lt (s.rows u u).clock z.limit) ClockFull None))
 
     -- The state after an accepted call: a send copies the unit's row to the message's, a receipt merges the message's row into
     -- the unit's, a mark rewrites the unit's row.
     abbrev pub acted : State V → ℕ → Event → State V
-    acted s u (send m) = record { rows = s.rows; message_rows = put s.message_rows m (s.rows u); posts = put s.posts m (result_unwrap_or (moved (s.posts m) Sending) (s.posts m)) }
-    acted s u (receive m) = record { rows = put s.rows u (merge_row M.start (s.rows u) (s.message_rows m)); message_rows = s.message_rows; posts = put s.posts m (result_unwrap_or (moved (s.posts m) Receiving) (s.posts m)) }
-    acted s u (mark l) = record { rows = put s.rows u (mark_row M u l (s.rows u)); message_rows = s.message_rows; posts = s.posts }
+    acted s u (Send m) = record { rows = s.rows; message_rows = put s.message_rows m (s.rows u); posts = put s.posts m (result_unwrap_or (moved (s.posts m) Sending) (s.posts m)) }
+    acted s u (Receive m) = record { rows = put s.rows u (merge_row M.start (s.rows u) (s.message_rows m)); message_rows = s.message_rows; posts = put s.posts m (result_unwrap_or (moved (s.posts m) Receiving) (s.posts m)) }
+    acted s u (Mark l) = record { rows = put s.rows u (mark_row M u l (s.rows u)); message_rows = s.message_rows; posts = s.posts }
 
     -- The answer to an accepted call, from the unit's row before it and after it.
     abbrev pub answer_to : ℕ → Event → (ℕ → Cell V) → (ℕ → Cell V) → Answer V
-    answer_to u (send m) before after = own_clock (after u).clock
-    answer_to u (receive m) before after = own_clock (after u).clock
-    answer_to u (mark l) before after = marked (after u).clock (those (λ j. (before j).flag) z.units) (after u).value
+    answer_to u (Send m) before after = Sent (after u).clock
+    answer_to u (Receive m) before after = Received (after u).clock
+    answer_to u (Mark l) before after = mark_answer (after u).clock (those (λ j. (before j).flag) z.units) (after u).value
 
     -- the reply to an accepted call
     abbrev pub reply : ℕ → Event → (ℕ → Cell V) → (ℕ → Cell V) → Reply V
@@ -80,11 +91,11 @@ module _ {V : Type 0} (M : Payload V) where
 
     -- The state after a call, taken or refused: a refused call changes nothing.
     abbrev pub next : State V → Call → State V
-    next s c = if_taken (refusal s c.unit c.act) (acted s c.unit c.act) s
+    next s c = if_taken (refusal s c.unit c.event) (acted s c.unit c.event) s
 
     -- The answer to a call, or its refusal.
     abbrev pub outcome : State V → Call → Result (Answer V) Refusal
-    outcome s c = answered (refusal s c.unit c.act) (answer_to c.unit c.act (s.rows c.unit) ((acted s c.unit c.act).rows c.unit))
+    outcome s c = answered (refusal s c.unit c.event) (answer_to c.unit c.event (s.rows c.unit) ((acted s c.unit c.event).rows c.unit))
 
     -- What each call of a list is answered, or why it is refused, from a state on.
     abbrev pub outcomes_from : State V → List Call → List (Result (Answer V) Refusal)
@@ -104,9 +115,9 @@ module _ {V : Type 0} (M : Payload V) where
     abbrev pub after : History V → Call → History V
     after h c = record {
       state = next h.state c;
-      log = if_taken (refusal h.state c.unit c.act) (grown h.log c.unit c.act) h.log;
-      told = if_taken (refusal h.state c.unit c.act)
-          (grown h.told c.unit (reply c.unit c.act (h.state.rows c.unit) ((acted h.state c.unit c.act).rows c.unit)))
+      log = if_taken (refusal h.state c.unit c.event) (grown h.log c.unit c.event) h.log;
+      told = if_taken (refusal h.state c.unit c.event)
+          (grown h.told c.unit (reply c.unit c.event (h.state.rows c.unit) ((acted h.state c.unit c.event).rows c.unit)))
           h.told;
     }
 
@@ -122,7 +133,7 @@ module _ {V : Type 0} (M : Payload V) where
     -- the calls of a list that are accepted after a history
     abbrev pub accepted_from : History V → List Call → List Call
     accepted_from h [] = []
-    accepted_from h (c ∷ cs) = if_taken (refusal h.state c.unit c.act) (c ∷ accepted_from (after h c) cs) (accepted_from (after h c) cs)
+    accepted_from h (c ∷ cs) = if_taken (refusal h.state c.unit c.event) (c ∷ accepted_from (after h c) cs) (accepted_from (after h c) cs)
 
     -- the calls of a list that are accepted
     abbrev pub accepted : List Call → List Call

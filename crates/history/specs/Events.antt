@@ -1,13 +1,8 @@
 -- What units do, and where it stands in their logs.
 use Rattle.std.specs.Prelude.{◌≡◌, ℕ, List, Some, Option}
 use Rattle.std.specs.List.{slice_get}
-
--- What a unit can do: send a message, receive one, or make a mark with a label. A unit is one process of a handset, a mark an
--- event that it shows.
-pub data Event : Type 0 where
-  send : ℕ → Event
-  receive : ℕ → Event
-  mark : ℕ → Event
+use Rattle.history.specs.declared.calls.Event.{Event}
+use Rattle.history.specs.declared.calls.Event.TheVariants.{Send, Receive}
 
 -- Each unit's own events, the oldest first.
 abbrev pub Logs : Type 0
@@ -31,8 +26,8 @@ Stands ev u i = (e : Event) × (ev u i ≡ Some e)
 
 -- message m was sent
 abbrev pub Sent : Events → ℕ → Type 0
-Sent ev m = (u i : ℕ) × (ev u i ≡ Some (send m))
+Sent ev m = (u i : ℕ) × (ev u i ≡ Some (Send m))
 
 -- message m was received
 abbrev pub Received : Events → ℕ → Type 0
-Received ev m = (u i : ℕ) × (ev u i ≡ Some (receive m))
+Received ev m = (u i : ℕ) × (ev u i ≡ Some (Receive m))

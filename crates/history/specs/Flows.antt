@@ -1,6 +1,8 @@
 -- Longest flows and their words.
 use Rattle.std.specs.Prelude.{◌≡◌, ℕ, List, [], ◌∷◌, map, Some, None, Option}
-use Rattle.history.specs.Events.{Event, Events, Place, send, receive, mark}
+use Rattle.history.specs.Events.{Events, Place}
+use Rattle.history.specs.declared.calls.Event.TheVariants.{Mark, Receive, Send}
+use Rattle.history.specs.declared.calls.Event.{Event}
 use Rattle.history.specs.HappenedBefore.{Immediate, First}
 use Rattle.history.specs.Words.{Letter, Word, letter_of}
 
@@ -30,9 +32,9 @@ Longest ev u i f = Opens ev f × Linked ev f × Ends u i f
 -- the letter of what unit u did: of a mark its own, of anything else 0, which no flow meets
 abbrev pub letter : ℕ → Option Event → Letter
 letter u None = letter_of u 0
-letter u (Some (send m)) = letter_of u 0
-letter u (Some (receive m)) = letter_of u 0
-letter u (Some (mark l)) = letter_of u l
+letter u (Some (Send m)) = letter_of u 0
+letter u (Some (Receive m)) = letter_of u 0
+letter u (Some (Mark l)) = letter_of u l
 
 -- the letter of what stands at a place
 abbrev pub letter_at : Events → Place → Letter

@@ -1,13 +1,14 @@
 -- Happened-before, and immediate predecessors.
 use Rattle.std.specs.Prelude.{◌≡◌, ℕ, ◌<◌, ◌⊎◌, Some}
-use Rattle.history.specs.Events.{Events, send, receive, Stands}
+use Rattle.history.specs.Events.{Events, Stands}
+use Rattle.history.specs.declared.calls.Event.TheVariants.{Receive, Send}
 use Rattle.history.specs.Marks.{IsMark}
 
 -- The event at place i of unit u is before the one at place j of unit v: it came earlier on the same unit, or is the send of the
 -- other's receipt, or a chain of such steps leads to the other.
 pub data Before (ev : Events) : ℕ → ℕ → ℕ → ℕ → Type 0 where
   earlier : {u i v j : ℕ} → u ≡ v → i < j → Stands ev u i → Stands ev v j → Before ev u i v j
-  message : {u i v j : ℕ} (m : ℕ) → ev u i ≡ Some (send m) → ev v j ≡ Some (receive m) → Before ev u i v j
+  message : {u i v j : ℕ} (m : ℕ) → ev u i ≡ Some (Send m) → ev v j ≡ Some (Receive m) → Before ev u i v j
   chain : {u i v j : ℕ} (w k : ℕ) → Before ev u i w k → Before ev w k v j → Before ev u i v j
 
 -- both are the same place

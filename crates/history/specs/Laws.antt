@@ -3,14 +3,19 @@ use Rattle.std.specs.Prelude.{◌≡◌, ℕ, suc, ◌⊎◌, ◌↔◌, if◌th
 use Rattle.bitset.specs.Sets.{Member}
 use Rattle.history.specs.declared.precedence.Precedence.{Precedence}
 use Rattle.history.specs.declared.refusals.Refusal.{Refusal}
-use Rattle.history.specs.Events.{Event, Events, send, receive, mark, at}
+use Rattle.history.specs.declared.calls.Answer.TheVariants.{Sent, Received}
+use Rattle.history.specs.Events.{Events, at}
+use Rattle.history.specs.declared.calls.Event.TheVariants.{Mark, Receive, Send}
+use Rattle.history.specs.declared.calls.Event.{Event}
 use Rattle.history.specs.Marks.{IsMark, marks}
 use Rattle.history.specs.HappenedBefore.{Immediate}
 use Rattle.history.specs.Stamps.{Stamp}
 use Rattle.history.specs.Messages.{Stated}
 use Rattle.history.specs.Rows.{Payload}
-use Rattle.history.specs.Runs.{Size, Call, Possible, Run, by_unit, events_in, SameByUnit}
-use Rattle.history.specs.Board.{State, Answer, History, own_clock, marked, refusal, next, outcome, outcomes, run, accepted}
+use Rattle.history.specs.Runs.{Size, Possible, Run, by_unit, events_in, SameByUnit}
+use Rattle.history.specs.declared.calls.Call.{Call}
+use Rattle.history.specs.Board.{State, History, Reply, mark_answer, refusal, next, outcome, outcomes, run, accepted}
+use Rattle.history.specs.declared.calls.Answer.{Answer}
 use Rattle.history.specs.Precedence.{Ordered, compared}
 
 -- The events that a run accepted.
@@ -23,7 +28,7 @@ pub record Answered {V : Type 0} (M : Payload V) (z : Size) (cs : List Call) (u 
   pub predecessors : ℕ
   pub value : V
   pub stamp : ℕ → ℕ
-  pub told : at (run M z cs).told u i ≡ Some (record { answer = marked clock predecessors value; stamp = stamp })
+  pub told : at (run M z cs).told u i ≡ Some (record { answer = mark_answer clock predecessors value; stamp = stamp })
   -- the clock is the mark's own number among its unit's marks, from 1
   pub clock_is : clock ≡ marks (happened M z cs) u (suc i)
   -- the predecessors are exactly the units of its immediate predecessors
@@ -34,17 +39,19 @@ pub record Answered {V : Type 0} (M : Payload V) (z : Size) (cs : List Call) (u 
 -- Each accepted mark was told its own number and the units of its immediate predecessors.
 abbrev pub MarksAnswered : Type 0 → Type 0
 MarksAnswered V =
-    (M : Payload V) (z : Size) (cs : List Call) (u i l : ℕ) → happened M z cs u i ≡ Some (mark l) → Answered M z cs u i
+    (M : Payload V) (z : Size) (cs : List Call) (u i l : ℕ) → happened M z cs u i ≡ Some (Mark l) → Answered M z cs u i
 
--- what a send or a receipt at place i of unit u is told: the number of its unit's marks so far
-abbrev pub message_told : {V : Type 0} → Events → ℕ → ℕ → Answer V
-message_told ev u i = own_clock (marks ev u i)
+-- What a send or a receipt at place i of unit u is answered, in terms of the events: the number of its unit's marks so far.
+abbrev pub MessageAnswered : {V : Type 0} → Events → ℕ → ℕ → Event → Answer V → Type 0
+MessageAnswered ev u i (Send m) a = a ≡ Sent (marks ev u i)
+MessageAnswered ev u i (Receive m) a = a ≡ Received (marks ev u i)
+MessageAnswered ev u i (Mark l) a = Unit {0}
 
--- Each accepted send or receipt was told the number of its unit's marks so far.
+-- Each accepted send or receipt was answered so.
 abbrev pub MessagesAnswered : Type 0 → Type 0
 MessagesAnswered V =
-    (M : Payload V) (z : Size) (cs : List Call) (u i m : ℕ) → (happened M z cs u i ≡ Some (send m)) ⊎ (happened M z cs u i ≡ Some (receive m))
-    → (stamp : ℕ → ℕ) × (at (run M z cs).told u i ≡ Some (record { answer = message_told (happened M z cs) u i; stamp = stamp }))
+    (M : Payload V) (z : Size) (cs : List Call) (u i : ℕ) (e : Event) → happened M z cs u i ≡ Some e
+    → (r : Reply V) × (at (run M z cs).told u i ≡ Some r) × MessageAnswered (happened M z cs) u i e r.answer
 
 -- the answers to the accepted calls of unit u, from the outcomes of a list of calls
 abbrev pub answers_of : {V : Type 0} → ℕ → List Call → List (Result (Answer V) Refusal) → List (Answer V)

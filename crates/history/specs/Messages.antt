@@ -14,6 +14,10 @@ code Unsent = 0
 code OnItsWay = 1
 code Delivered = 2
 
+-- what a message is before anything is sent
+abbrev pub unsent : Post
+unsent = Unsent
+
 -- What a send or a receipt makes of a message, or why it is refused.
 abbrev pub moved : Post → Handling → Result Post Refusal
 moved Unsent Sending = Ok OnItsWay

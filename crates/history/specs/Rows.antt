@@ -1,12 +1,7 @@
--- Cells, and the rules for rows of cells.
-use Rattle.std.specs.Prelude.{ℕ, suc, Bool, true, false, if◌then◌else◌, ◌&&◌, ◌==◌, nat_lt}
-
--- A cell of a row tells of one unit: the clock is the number of its marks that are known, the flag says whether the last of
+-- The rules for rows of cells. A cell tells of one unit: the clock is the number of its marks that are known, the flag says whether the last of
 -- these is an immediate predecessor of what comes next.
-pub record Cell (V : Type 0) : Type 0 where
-  pub clock : ℕ
-  pub flag : Bool
-  pub value : V
+use Rattle.std.specs.Prelude.{ℕ, suc, Bool, true, false, if◌then◌else◌, ◌&&◌, ◌==◌, nat_lt}
+use Rattle.history.specs.declared.cells.Cell.{Cell}
 
 -- What cells carry beside clock and flag: a start, and what a mark gets from its unit's row, its unit and its label. A board
 -- without measures carries nothing.

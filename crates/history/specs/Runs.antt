@@ -1,6 +1,9 @@
 -- Calls, the size of a board, and what a real run can do, told by the events alone.
 use Rattle.std.specs.Prelude.{◌≡◌, ℕ, ◌<◌, Bool, true, if◌then◌else◌, List, [], ◌∷◌, ◌++◌, length, ◌==◌}
-use Rattle.history.specs.Events.{Event, send, receive, mark, Events, Logs, at, Sent, Received}
+use Rattle.history.specs.declared.calls.Call.{Call}
+use Rattle.history.specs.Events.{Events, Logs, at, Sent, Received}
+use Rattle.history.specs.declared.calls.Event.TheVariants.{Mark, Receive, Send}
+use Rattle.history.specs.declared.calls.Event.{Event}
 use Rattle.history.specs.Marks.{marks}
 use Rattle.history.specs.Rows.{put}
 
@@ -11,14 +14,9 @@ pub record Size : Type 0 where
   pub fits : ℕ → ℕ → Bool
   pub limit : ℕ
 
--- A call: a unit, and what it does.
-pub record Call : Type 0 where
-  pub unit : ℕ
-  pub act : Event
-
 -- a call of unit u
 abbrev pub call : ℕ → Event → Call
-call u e = record { unit = u; act = e }
+call u e = record { unit = u; event = e }
 
 -- no unit has done anything
 abbrev pub silence : {A : Type 0} → ℕ → List A
@@ -31,14 +29,14 @@ grown logs u x = put logs u (logs u ++ x ∷ [])
 -- What can come next in a run that has come to these logs: a send of a message not yet sent, a receipt of one on its way, a mark
 -- within the limits.
 abbrev pub Possible : Size → Logs → ℕ → Event → Type 0
-Possible z logs u (send m) = (u < z.units) × (m < z.messages) × (Sent (at logs) m → ⊥)
-Possible z logs u (receive m) = (u < z.units) × (m < z.messages) × Sent (at logs) m × (Received (at logs) m → ⊥)
-Possible z logs u (mark l) = (u < z.units) × (z.fits u l ≡ true) × (marks (at logs) u (length (logs u)) < z.limit)
+Possible z logs u (Send m) = (u < z.units) × (m < z.messages) × (Sent (at logs) m → ⊥)
+Possible z logs u (Receive m) = (u < z.units) × (m < z.messages) × Sent (at logs) m × (Received (at logs) m → ⊥)
+Possible z logs u (Mark l) = (u < z.units) × (z.fits u l ≡ true) × (marks (at logs) u (length (logs u)) < z.limit)
 
 -- each call is possible after those before it
 abbrev pub Continues : Size → Logs → List Call → Type 0
 Continues z logs [] = Unit {0}
-Continues z logs (c ∷ cs) = Possible z logs c.unit c.act × Continues z (grown logs c.unit c.act) cs
+Continues z logs (c ∷ cs) = Possible z logs c.unit c.event × Continues z (grown logs c.unit c.event) cs
 
 -- The calls are a run: each is possible after those before it.
 abbrev pub Run : Size → List Call → Type 0
@@ -47,7 +45,7 @@ Run z cs = Continues z silence cs
 -- each unit's own events in a list of calls, in the order handed in
 abbrev pub by_unit : List Call → Logs
 by_unit [] u = []
-by_unit (c ∷ cs) u = if u == c.unit then c.act ∷ by_unit cs u else by_unit cs u
+by_unit (c ∷ cs) u = if u == c.unit then c.event ∷ by_unit cs u else by_unit cs u
 
 -- what happened in a list of calls
 abbrev pub events_in : List Call → Events

@@ -3,11 +3,15 @@
 // Stands on `bitset`.
 #![tactic(auto)]
 
+pub mod calls;
+pub mod cells;
 pub mod laws;
 pub mod messages;
 pub mod precedence;
 pub mod refusals;
 
+pub use calls::{Answer, Call, Clock, Event, Marked};
+pub use cells::Cell;
 pub use messages::{Handling, Post};
 pub use precedence::Precedence;
 pub use refusals::Refusal;

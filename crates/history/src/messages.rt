@@ -4,14 +4,14 @@ ghost use Rattle.history.specs.Messages.{code, moved, travels};
 
 use super::refusals::Refusal;
 
-// The state of a message, with the number by which it is known.
+/// The state of a message, with the number by which it is known.
 #[derive(Clone, Copy, PartialEq, Eq, Debug)]
 pub enum Post {
-    // never sent
+    /// Never sent.
     Unsent = 0,
-    // sent, and not yet received
+    /// Sent, and not yet received.
     OnItsWay = 1,
-    // received
+    /// Received.
     Delivered = 2,
 }
 
@@ -24,7 +24,7 @@ impl From<Post> for u8 {
     }
 }
 
-// What a call does with a message.
+/// What a call does with a message.
 #[derive(Clone, Copy, PartialEq, Eq, Debug)]
 pub enum Handling {
     Sending,
@@ -32,8 +32,11 @@ pub enum Handling {
 }
 
 impl Post {
-    // What a send or a receipt makes of the message, or why it is refused: one match on the state and on what is done, as a rule of the
-    // project asks.
+    /// What a message is before anything is sent.
+    pub const UNSENT: Post = Post::Unsent;
+
+    /// What a send or a receipt makes of the message. Refuses a second send (7), the receipt of a message never sent (8) and a second
+    /// receipt (9).
     pub fn handled(self, handling: Handling) -> Result<Post, Refusal>
         ensures { result ≡ moved self handling }
     {
@@ -46,7 +49,7 @@ impl Post {
         }
     }
 
-    // Whether the message is on its way.
+    /// Whether the message is on its way: sent, and not yet received.
     pub fn travels(self) -> bool
         ensures { result ≡ travels self }
     {

@@ -4,16 +4,18 @@ use Rattle.std.specs.List.{slice_get}
 use Rattle.std.specs.Option.{option_map}
 use Rattle.std.specs.Prelude.{slice_index, slice_index_or}
 use Rattle.std.proofs.lemmas.Bool.{cases_lt, le-ltb, lt-ltb}
-use Rattle.std.proofs.lemmas.List.{get_or_past, map_more, map_push, places, take_more_set}
+use Rattle.std.proofs.lemmas.List.{get_or_past, places, take_more, take_more_set}
 use Rattle.std.proofs.lemmas.Grind.{common_steps}
 use Rattle.std.proofs.lemmas.Option.{slice_get-map}
 use Rattle.history.specs.declared.messages.Post.{Post}
-use Rattle.history.specs.declared.messages.Post.TheVariants.{Unsent}
+use Rattle.history.specs.Messages.{unsent, travels}
 use Rattle.history.specs.declared.refusals.Refusal.{Refusal}
 use Rattle.history.specs.declared.refusals.Refusal.TheVariants.{MemoryTooShort}
 use Rattle.grid.specs.Rows.{row}
 use Rattle.history.specs.Counting.{HowMany}
-use Rattle.history.specs.Events.{Events, send, receive, mark}
+use Rattle.history.specs.Events.{Events}
+use Rattle.history.specs.declared.calls.Event.{Event}
+use Rattle.history.specs.declared.calls.Event.TheVariants.{Mark}
 use Rattle.history.specs.HappenedBefore.{UpTo}
 use Rattle.history.specs.Stamps.{Stamp}
 use Rattle.history.proofs.RowOf.{Row}
@@ -21,22 +23,24 @@ use Rattle.history.proofs.Runs.{SoundAt, sound_run}
 use Rattle.history.proofs.Sound.{Ranged}
 use Rattle.history.proofs.Stamps.{clocks_stamp}
 use Rattle.history.specs.Marks.{IsMark}
-use Rattle.history.specs.Rows.{Cell, Payload}
-use Rattle.history.specs.Runs.{Size, Call}
-use Rattle.history.specs.Board.{State, Answer, Reply, new_history, marked, outcomes, run}
-use Rattle.history.specs.Laws.{SameHistory, OrderFree, answers_of, message_told}
+use Rattle.history.specs.Rows.{Payload}
+use Rattle.history.specs.declared.cells.Cell.{Cell}
+use Rattle.history.specs.Runs.{Size}
+use Rattle.history.specs.declared.calls.Call.{Call}
+use Rattle.history.specs.Board.{State, Reply, new_history, mark_answer, outcomes, run}
+use Rattle.history.specs.declared.calls.Answer.{Answer}
+use Rattle.history.specs.Laws.{SameHistory, OrderFree, MessageAnswered, answers_of}
 use Rattle.history.proofs.Accepting.{accepts_runs}
 use Rattle.history.proofs.Answering.{messages_answered}
 use Rattle.history.proofs.OrderFree.{order_free}
 use Rattle.history.proofs.Outcomes.{outcomes_told}
 use Rattle.history.specs.Limits.{most_marks}
-use Rattle.causality.specs.Boards.{Memory, Holds, Shows, Follows, Makes, state_answer, left_answer}
-use Rattle.causality.specs.Calls.{Obeys, has_room}
-use Rattle.causality.proofs.Leaving.{each_shows, travelling_same}
+use Rattle.causality.specs.Boards.{Memory, Holds, Shows, Follows, Makes, state_answer, left_answer, Obeys, has_room, setup}
+use Rattle.causality.proofs.Leaving.{each_shows, count_below_same}
 use Rattle.measures.specs.Words.{Word}
 use Rattle.measures.specs.Measures.{Meaning, Lawful}
-use Rattle.measures.specs.Worths.{carrying, sized, load}
-use Rattle.measures.specs.Laws.{accepted_events, Valued, Judged, AtMarks, MarksJudged}
+use Rattle.measures.specs.Worths.{measured_payload, measured_size, measured_rules}
+use Rattle.measures.specs.Laws.{accepted_events, Valued, TellsOfFlows, AtMarks, MarksJudged}
 use Rattle.measures.specs.Boards.{StandAlike, taken, Played, MarkAnswered, Agree, AtAnswers, MarksGood, LawOfBoards}
 use Rattle.measures.proofs.Judging.{marks_judged}
 use Rattle.measures.proofs.Replaying.{state_push, outcomes_push, last_outcome, accepted_taken}
@@ -82,15 +86,15 @@ module _ {V : Type 0} (start : V) (n k : ℕ) (a b : Memory V) (alike : StandAli
 
   -- So is the question for the number of messages on their way.
   same_left : left_answer k true a.posts ≡ left_answer k true b.posts
-  same_left = ap (λ (t : ℕ). Ok t) (travelling_same (λ p. slice_index_or a.posts p Unsent) (λ p. slice_index_or b.posts p Unsent) k alike.posts)
+  same_left = ap (λ (t : ℕ). Ok t) (count_below_same (λ p. travels (slice_index_or a.posts p unsent)) (λ p. travels (slice_index_or b.posts p unsent)) k (λ p h. ap travels (alike.posts p h)))
 
 module _ {V : Type 0} (m : Meaning V) (n k : ℕ) where
   -- what the cells of such a board carry, and its size
   abbrev M : Payload V
-  M = carrying m n
+  M = measured_payload m n
 
   abbrev z : Size
-  z = sized m n k most_marks
+  z = measured_size m n k most_marks
 
   -- a board just made was handed no call
   played_made : (old new : Memory V) → Makes M n k None old new → Played m n k [] [] new
@@ -98,7 +102,7 @@ module _ {V : Type 0} (m : Meaning V) (n k : ℕ) where
 
   -- a call that follows the rules is one more
   played_called : (cs : List Call) (xs : List (Result (Answer V) Refusal)) (old new : Memory V) (c : Call) (x : Result (Answer V) Refusal)
-      → Played m n k cs xs old → Obeys (load m) n k c old new x → has_room n k old ≡ true → Played m n k (cs ++ c ∷ []) (xs ++ x ∷ []) new
+      → Played m n k cs xs old → Obeys (setup (measured_rules m) n k) c old new x → has_room n k old ≡ true → Played m n k (cs ++ c ∷ []) (xs ++ x ∷ []) new
   played_called cs xs old new c x p o there =
       let s = (run M z cs).state in
       let f = subst (λ (b : Bool). Follows M z c b old new x) there o.follows in
@@ -110,19 +114,18 @@ module _ {V : Type 0} (m : Meaning V) (n k : ℕ) where
 
   -- A call whose memory is too short is refused, and the board stands as it did.
   played_short : (cs : List Call) (xs : List (Result (Answer V) Refusal)) (old new : Memory V) (c : Call) (x : Result (Answer V) Refusal)
-      → Played m n k cs xs old → Obeys (load m) n k c old new x → has_room n k old ≡ false → (x ≡ Err MemoryTooShort) × Played m n k cs xs new
+      → Played m n k cs xs old → Obeys (setup (measured_rules m) n k) c old new x → has_room n k old ≡ false → (x ≡ Err MemoryTooShort) × Played m n k cs xs new
   played_short cs xs old new c x p o short =
       let s = (run M z cs).state in
       let f = subst (λ (b : Bool). Follows M z c b old new x) short o.follows in
       (f.answer s p.shows, record { answers_are = p.answers_are; shows = f.state s p.shows })
 
-  -- One call more of two lists that a loop goes over, which writes each answer where a thing of its own stood.
-  pub played_mapped : {A B : Type 0} (f : A → Call) (g : B → Result (Answer V) Refusal) (ds : List A) (ys : List B) (i : ℕ) (d : A) (y : B)
-      → i < length ds → i < length ys → (old new : Memory V) → Played m n k (map f (take i ds)) (map g (take i ys)) old
-      → Obeys (load m) n k (f (get_or ds i d)) old new (g y) → has_room n k old ≡ true → Played m n k (map f (take (i + 1) ds)) (map g (take (i + 1) (set ys i y))) new
-  played_mapped f g ds ys i d y h h' old new p o there =
-      rw (map_more f ds i d h, take_more_set ys i y h', map_push g (take i ys) y)
-      (played_called (map f (take i ds)) (map g (take i ys)) old new (f (get_or ds i d)) (g y) p o there)
+  -- One call more of two lists that a loop goes over.
+  pub played_more : (ds : List Call) (ys : List (Result (Answer V) Refusal)) (i : ℕ) (d : Call) (y : Result (Answer V) Refusal)
+      → i < length ds → i < length ys → (old new : Memory V) → Played m n k (take i ds) (take i ys) old
+      → Obeys (setup (measured_rules m) n k) (get_or ds i d) old new y → has_room n k old ≡ true → Played m n k (take (i + 1) ds) (take (i + 1) (set ys i y)) new
+  played_more ds ys i d y h h' old new p o there =
+      rw (take_more ds i d h, take_more_set ys i y h') (played_called (take i ds) (take i ys) old new (get_or ds i d) y p o there)
 
   -- Boards whose histories stand alike stand alike.
   played_alike : (cs ds : List Call) (xs ys : List (Result (Answer V) Refusal)) (a b : Memory V) → Played m n k cs xs a → Played m n k ds ys b
@@ -152,17 +155,16 @@ module _ {V : Type 0} (m : Meaning V) (n k : ℕ) where
   mark_answered cs xs memory p u i v = record {
     valued = v;
     answer = ap (λ (l : List (Result (Answer V) Refusal)). slice_get (answers_of u cs l) i) p.answers_are
-        ∙ reply_told M z cs u i (record { answer = marked v.answered.clock v.answered.predecessors v.answered.value; stamp = v.answered.stamp }) v.answered.told;
+        ∙ reply_told M z cs u i (record { answer = mark_answer v.answered.clock v.answered.predecessors v.answered.value; stamp = v.answered.stamp }) v.answered.told;
   }
 
   -- What a send or a receipt was told is what it was answered.
-  message_answered : (cs : List Call) (xs : List (Result (Answer V) Refusal)) (memory : Memory V) → Played m n k cs xs memory → (u i p : ℕ)
-      → (accepted_events m n k most_marks cs u i ≡ Some (send p)) ⊎ (accepted_events m n k most_marks cs u i ≡ Some (receive p))
-      → slice_get (answers_of u cs xs) i ≡ Some (message_told (accepted_events m n k most_marks cs) u i)
-  message_answered cs xs memory q u i p e =
-      let (stamp, told) = messages_answered V M z cs u i p e in
-      ap (λ (l : List (Result (Answer V) Refusal)). slice_get (answers_of u cs l) i) q.answers_are
-      ∙ reply_told M z cs u i (record { answer = message_told (accepted_events m n k most_marks cs) u i; stamp = stamp }) told
+  message_answered : (cs : List Call) (xs : List (Result (Answer V) Refusal)) (memory : Memory V) → Played m n k cs xs memory → (u i : ℕ) (e : Event)
+      → accepted_events m n k most_marks cs u i ≡ Some e
+      → (a : Answer V) × (slice_get (answers_of u cs xs) i ≡ Some a) × MessageAnswered (accepted_events m n k most_marks cs) u i e a
+  message_answered cs xs memory q u i e p =
+      let (r, told, is) = messages_answered V M z cs u i e p in
+      (r.answer, ap (λ (l : List (Result (Answer V) Refusal)). slice_get (answers_of u cs l) i) q.answers_are ∙ reply_told M z cs u i r told, is)
 
 -- The stamp of a mark has no marks of units that the board does not have.
 no_marks : (ev : Events) (z : Size) → Ranged ev z → (v : ℕ) → z.units ≤ v → (P : ℕ → Type 0) → HowMany (λ j. IsMark ev v j × P j) 0
@@ -170,17 +172,17 @@ no_marks ev z r v h P = ([], record { sound = λ j a. absurd a; complete = λ j 
 
 -- As long as a mark's unit does nothing more, its row of clocks is the mark's stamp.
 module _ {V : Type 0} (m : Meaning V) (n k : ℕ) (cs : List Call) (xs : List (Result (Answer V) Refusal)) (memory : Memory V) (p : Played m n k cs xs memory)
-    (u i l : ℕ) (e : accepted_events m n k most_marks cs u i ≡ Some (mark l)) (last : length ((run (carrying m n) (sized m n k most_marks) cs).log u) ≡ suc i) where
-  sound : SoundAt (carrying m n) (sized m n k most_marks) (run (carrying m n) (sized m n k most_marks) cs)
-  sound = sound_run (carrying m n) (sized m n k most_marks) cs
+    (u i l : ℕ) (e : accepted_events m n k most_marks cs u i ≡ Some (Mark l)) (last : length ((run (measured_payload m n) (measured_size m n k most_marks) cs).log u) ≡ suc i) where
+  sound : SoundAt (measured_payload m n) (measured_size m n k most_marks) (run (measured_payload m n) (measured_size m n k most_marks) cs)
+  sound = sound_run (measured_payload m n) (measured_size m n k most_marks) cs
 
-  row_stamp : Stamp (accepted_events m n k most_marks cs) u i (λ v. ((run (carrying m n) (sized m n k most_marks) cs).state.rows u v).clock)
+  row_stamp : Stamp (accepted_events m n k most_marks cs) u i (λ v. ((run (measured_payload m n) (measured_size m n k most_marks) cs).state.rows u v).clock)
   row_stamp =
-      clocks_stamp (carrying m n) (accepted_events m n k most_marks cs) sound.once u i l e _
-      (subst (λ (j : ℕ). Row (carrying m n) (accepted_events m n k most_marks cs) u j ((run (carrying m n) (sized m n k most_marks) cs).state.rows u)) last (sound.rows_are u))
+      clocks_stamp (measured_payload m n) (accepted_events m n k most_marks cs) sound.once u i l e _
+      (subst (λ (j : ℕ). Row (measured_payload m n) (accepted_events m n k most_marks cs) u j ((run (measured_payload m n) (measured_size m n k most_marks) cs).state.rows u)) last (sound.rows_are u))
 
   -- what a row that is read from the memory has for unit v
-  in_row : (v : ℕ) → v < n → slice_index (row memory.clocks.cells.now n u) v ≡ ((run (carrying m n) (sized m n k most_marks) cs).state.rows u v).clock
+  in_row : (v : ℕ) → v < n → slice_index (row memory.clocks.cells.now n u) v ≡ ((run (measured_payload m n) (measured_size m n k most_marks) cs).state.rows u v).clock
   in_row v h = read ∙ p.shows.clocks.rows u v (sound.ranged.unit u i l e) h
     where
       read : get_or (row memory.clocks.cells.now n u) v 0 ≡ get_or memory.clocks.cells.now (u * n + v) 0
@@ -192,7 +194,7 @@ module _ {V : Type 0} (m : Meaning V) (n k : ℕ) (cs : List Call) (xs : List (R
   board_stamp : Stamp (accepted_events m n k most_marks cs) u i (λ v. slice_index (row memory.clocks.cells.now n u) v)
   board_stamp v = elim (cases_lt v n) [
     | inl h ↦ rw (in_row v h) (row_stamp v)
-    | inr h ↦ rw (past_row v h) (no_marks (accepted_events m n k most_marks cs) (sized m n k most_marks) sound.ranged v h (λ j. UpTo (accepted_events m n k most_marks cs) v j u i))
+    | inr h ↦ rw (past_row v h) (no_marks (accepted_events m n k most_marks cs) (measured_size m n k most_marks) sound.ranged v h (λ j. UpTo (accepted_events m n k most_marks cs) v j u i))
   ]
 
 -- What is true of the value told at each mark of every run is true of the value answered.
@@ -202,7 +204,7 @@ at_answers m P law n k cs xs memory p u i l e = let (v, is) = law n k most_marks
 
 -- so what a judge says of it
 pub marks_good : {V : Type 0} (m : Meaning V) (some all : V → Bool) (good : Word → Type 0) → MarksJudged m some all good → MarksGood m some all good
-marks_good m some all good law = at_answers m (λ ev u i v. Judged good (some v) (all v) ev u i) law
+marks_good m some all good law = at_answers m (λ ev u i v. TellsOfFlows good (some v) (all v) ev u i) law
 
 -- The law of boards, for every lawful measure.
 pub law_of_boards : {V : Type 0} (m : Meaning V) (admits : V → Type 0) → Lawful m admits → LawOfBoards m admits
@@ -211,11 +213,11 @@ law_of_boards m admits laws = record {
   made = λ n k old new h. played_made m n k old new h;
   called = λ n k cs xs old new c x p o r. played_called m n k cs xs old new c x p o r;
   short = λ n k cs xs old new c x p o r. played_short m n k cs xs old new c x p o r;
-  accepted_are = λ n k cs xs memory p. accepted_taken (carrying m n) (sized m n k most_marks) (new_history (carrying m n)) cs ∙ ap (taken cs) (sym p.answers_are);
-  accepts = λ n k cs. accepts_runs (carrying m n) (sized m n k most_marks) cs;
+  accepted_are = λ n k cs xs memory p. accepted_taken (measured_payload m n) (measured_size m n k most_marks) (new_history (measured_payload m n)) cs ∙ ap (taken cs) (sym p.answers_are);
+  accepts = λ n k cs. accepts_runs (measured_payload m n) (measured_size m n k most_marks) cs;
   marks_answered = λ n k cs xs memory p u i l e. mark_answered m n k cs xs memory p u i (valued m admits laws n k most_marks cs u i l e);
   stamped = λ n k cs xs memory p u i l e last. board_stamp m n k cs xs memory p u i l e last;
-  messages_answered = λ n k cs xs memory q u i p e. message_answered m n k cs xs memory q u i p e;
-  order = λ n k cs ds xs ys a b p q same. played_agree m n k cs ds xs ys a b p q (order_free (carrying m n) (sized m n k most_marks) cs ds same);
+  messages_answered = λ n k cs xs memory q u i e p. message_answered m n k cs xs memory q u i e p;
+  order = λ n k cs ds xs ys a b p q same. played_agree m n k cs ds xs ys a b p q (order_free (measured_payload m n) (measured_size m n k most_marks) cs ds same);
   judged = λ some all good by_some by_all. marks_good m some all (λ w. IsTrue (good w)) (marks_judged m admits laws some all (λ w. IsTrue (good w)) by_some by_all);
 }

@@ -3,7 +3,7 @@ use Rattle.std.proofs.Common.{◌≡◌, ℕ, zero, suc, ◌<◌, true, false, �
 use Rattle.std.proofs.lemmas.Bool.{cases_eq, cases_Bool}
 use Rattle.history.specs.Counting.{Among, Distinct, Exactly}
 use Rattle.history.specs.Events.{Events, Place}
-use Rattle.history.specs.Rows.{Cell}
+use Rattle.history.specs.declared.cells.Cell.{Cell}
 use Rattle.history.proofs.Truth.{Top, Truthful, top_one}
 use Rattle.history.proofs.Flows.{Flow, flow_end}
 use Rattle.history.proofs.Holds.{Known}

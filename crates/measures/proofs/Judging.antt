@@ -9,7 +9,7 @@ use Rattle.history.proofs.Sound.{Ranged}
 use Rattle.measures.specs.Words.{Word}
 use Rattle.measures.specs.Measures.{Meaning, Lawful, Fits, Spelled, carried_from, carried, joined}
 use Rattle.measures.specs.Judges.{Judges}
-use Rattle.measures.specs.Worths.{sized}
+use Rattle.measures.specs.Worths.{measured_size}
 use Rattle.measures.specs.Laws.{join_over, accepted_events, MarksJudged}
 use Rattle.measures.proofs.Worths.{mark_fits}
 use Rattle.measures.proofs.Valuing.{ranged, valued}
@@ -59,7 +59,7 @@ module _ {V : Type 0} (m : Meaning V) (admits : V → Type 0) (laws : Lawful m a
           (joins v (c x) h (in' x) ∙ and_from (answer v) (answer (c x)) e (f x (inl refl))) (λ a i. f a (inr i))
 
 -- the word of a longest flow is spelled in the measure's letters
-pub flow_spelled : {V : Type 0} (m : Meaning V) (n k limit : ℕ) (ev : Events) → Ranged ev (sized m n k limit) → (u i : ℕ) (f : List Place) → Opens ev f → Linked ev f → Spelled m (word ev f)
+pub flow_spelled : {V : Type 0} (m : Meaning V) (n k limit : ℕ) (ev : Events) → Ranged ev (measured_size m n k limit) → (u i : ℕ) (f : List Place) → Opens ev f → Linked ev f → Spelled m (word ev f)
 flow_spelled m n k limit ev rg u i [] o l = tt
 flow_spelled m n k limit ev rg u i (x ∷ f) o l = spelled x f (mark_fits m n k limit ev rg x.0 x.1 o.0) l
   where
@@ -67,7 +67,7 @@ flow_spelled m n k limit ev rg u i (x ∷ f) o l = spelled x f (mark_fits m n k 
     spelled x [] h l = (h, tt)
     spelled x (y ∷ f) h l = (h, spelled y f (mark_fits m n k limit ev rg y.0 y.1 l.0.1) l.1)
 
-module _ {V : Type 0} (m : Meaning V) (admits : V → Type 0) (laws : Lawful m admits) (n k limit : ℕ) (ev : Events) (rg : Ranged ev (sized m n k limit)) (u i : ℕ) (answer : V → Bool) (good : Word → Type 0) where
+module _ {V : Type 0} (m : Meaning V) (admits : V → Type 0) (laws : Lawful m admits) (n k limit : ℕ) (ev : Events) (rg : Ranged ev (measured_size m n k limit)) (u i : ℕ) (answer : V → Bool) (good : Word → Type 0) where
   -- of one longest flow the answer says whether it is good
   flow_decided : {op : Bool → Bool → Bool} → Judges op m admits answer good → (f : List Place) → Longest ev u i f → Decides (answer (carried m (word ev f))) (good (word ev f))
   flow_decided judge [] h = absurd h.0

@@ -4,8 +4,7 @@ use Rattle.std.proofs.lemmas.Grind.{common_steps}
 use Rattle.std.proofs.lemmas.List.{get_or-set_other}
 use Rattle.grid.specs.declared.Grid.{Grid}
 use Rattle.grid.specs.Grids.{SameLoan}
-use Rattle.causality.specs.Boards.{Memory, SameFrom, SameBeyond, fits_board}
-use Rattle.causality.specs.Calls.{SameLoans, has_room}
+use Rattle.causality.specs.Boards.{Memory, SameFrom, SameBeyond, has_all_rows, SameLoans, has_room}
 
 -- what was left alone twice was left alone
 from_twice : {X : Type 0} {other : X} {place : ℕ} {a b c : List X} → SameFrom other place a b → SameFrom other place b c → SameFrom other place a c
@@ -28,7 +27,7 @@ memory_twice : {X : Type 0} {a b c : Grid X} → SameLoan a b → SameLoan b c �
 memory_twice p q = record { width = q.width ∙ p.width; lender = q.lender ∙ p.lender }
 
 -- a grid that is as wide and as long as before fits as before
-fits_kept : {X : Type 0} (n k : ℕ) (g h : Grid X) → SameLoan g h → length h.cells.now ≡ length g.cells.now → fits_board n k h ≡ fits_board n k g
+fits_kept : {X : Type 0} (n k : ℕ) (g h : Grid X) → SameLoan g h → length h.cells.now ≡ length g.cells.now → has_all_rows n k h ≡ has_all_rows n k g
 fits_kept n k g h m e = ap₂ (λ (w len : ℕ). w == n && nat_le ((n + k) * n) len) m.width e
 
 -- so no call of a board changes whether there is room

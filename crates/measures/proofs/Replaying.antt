@@ -3,8 +3,10 @@ use Rattle.std.proofs.Common.{◌≡◌, List, [], ◌∷◌, ◌++◌, Some, No
 use Rattle.std.proofs.lemmas.List.{same_from_push}
 use Rattle.history.specs.declared.refusals.Refusal.{Refusal}
 use Rattle.history.specs.Rows.{Payload}
-use Rattle.history.specs.Runs.{Size, Call}
-use Rattle.history.specs.Board.{Answer, History, new_history, if_taken, answered, refusal, next, outcome, outcomes_from, outcomes, after, run_from, run, accepted_from}
+use Rattle.history.specs.Runs.{Size}
+use Rattle.history.specs.declared.calls.Call.{Call}
+use Rattle.history.specs.Board.{History, new_history, if_taken, answered, refusal, next, outcome, outcomes_from, outcomes, after, run_from, run, accepted_from}
+use Rattle.history.specs.declared.calls.Answer.{Answer}
 use Rattle.measures.specs.Boards.{taken}
 
 module _ {V : Type 0} (M : Payload V) (z : Size) where
@@ -33,7 +35,7 @@ module _ {V : Type 0} (M : Payload V) (z : Size) where
   -- the accepted calls are those that were answered with no refusal
   pub accepted_taken : (h : History V) (cs : List Call) → accepted_from M z h cs ≡ taken cs (outcomes_from M z h.state cs)
   accepted_taken h [] = refl
-  accepted_taken h (c ∷ cs) = one (refusal M z h.state c.unit c.act) _ _ (accepted_taken (after M z h c) cs)
+  accepted_taken h (c ∷ cs) = one (refusal M z h.state c.unit c.event) _ _ (accepted_taken (after M z h c) cs)
     where
       one : (o : Option Refusal) (x : Answer V) (xs : List (Result (Answer V) Refusal)) {l : List Call} → l ≡ taken cs xs → if_taken o (c ∷ l) l ≡ taken (c ∷ cs) (answered o x ∷ xs)
       one None x xs e = ap (λ (l : List Call). c ∷ l) e

@@ -5,10 +5,11 @@ use Rattle.std.proofs.lemmas.Option.{same_Some}
 use Rattle.std.proofs.lemmas.List.{map-id, reverse-reverse}
 use Rattle.std.proofs.lemmas.Simd.{map-map}
 use Rattle.history.specs.Counting.{Exactly}
-use Rattle.history.specs.Events.{Events, mark, Place}
+use Rattle.history.specs.Events.{Events, Place}
+use Rattle.history.specs.declared.calls.Event.TheVariants.{Mark}
 use Rattle.history.specs.Flows.{Longest, word}
-use Rattle.history.specs.Rows.{Cell}
-use Rattle.history.specs.Runs.{Call}
+use Rattle.history.specs.declared.cells.Cell.{Cell}
+use Rattle.history.specs.declared.calls.Call.{Call}
 use Rattle.history.proofs.Answering.{answer_made}
 use Rattle.history.proofs.Flows.{flows_longest, longest_flows}
 use Rattle.history.proofs.Holds.{Holds}
@@ -18,7 +19,7 @@ use Rattle.history.proofs.RowOf.{Row}
 use Rattle.history.proofs.Runs.{sound_run}
 use Rattle.history.proofs.Sound.{Ranged}
 use Rattle.measures.specs.Measures.{Meaning, Lawful, carried, joined}
-use Rattle.measures.specs.Worths.{carrying, sized}
+use Rattle.measures.specs.Worths.{measured_payload, measured_size}
 use Rattle.measures.specs.Laws.{join_over, accepted_events, Valued, LawOfRuns}
 use Rattle.measures.proofs.Totals.{carried_back, carried_back_word, total_joined, exactly_total}
 use Rattle.measures.proofs.Gathering.{Tally}
@@ -52,17 +53,17 @@ module _ {V : Type 0} (m : Meaning V) (admits : V → Type 0) (laws : Lawful m a
         ∙ ap₂ (joined m) (carried_back_word m ev (reverse f) ∙ ap (λ (g : List Place). carried m (word ev g)) (reverse-reverse f)) (words_back fs)
 
 module _ {V : Type 0} (m : Meaning V) (admits : V → Type 0) (laws : Lawful m admits) (n k limit : ℕ) (cs : List Call) where
-  pub ranged : Ranged (accepted_events m n k limit cs) (sized m n k limit)
-  ranged = (sound_run (carrying m n) (sized m n k limit) cs).ranged
+  pub ranged : Ranged (accepted_events m n k limit cs) (measured_size m n k limit)
+  ranged = (sound_run (measured_payload m n) (measured_size m n k limit) cs).ranged
 
-  rows_worth : {u i : ℕ} {r : ℕ → Cell V} → Row (carrying m n) (accepted_events m n k limit cs) u i r → Holds (accepted_events m n k limit cs) m.start (Tally m (accepted_events m n k limit cs)) u i r
+  rows_worth : {u i : ℕ} {r : ℕ → Cell V} → Row (measured_payload m n) (accepted_events m n k limit cs) u i r → Holds (accepted_events m n k limit cs) m.start (Tally m (accepted_events m n k limit cs)) u i r
   rows_worth d =
-      rows_hold (accepted_events m n k limit cs) (carrying m n) (Tally m (accepted_events m n k limit cs)) (sound_run (carrying m n) (sized m n k limit) cs).once
+      rows_hold (accepted_events m n k limit cs) (measured_payload m n) (Tally m (accepted_events m n k limit cs)) (sound_run (measured_payload m n) (measured_size m n k limit) cs).once
       (worth_mark (accepted_events m n k limit cs) m admits laws n k limit ranged) d
 
-  pub valued : (u i l : ℕ) → accepted_events m n k limit cs u i ≡ Some (mark l) → Valued m n k limit cs u i
+  pub valued : (u i l : ℕ) → accepted_events m n k limit cs u i ≡ Some (Mark l) → Valued m n k limit cs u i
   valued u i l e =
-      let (a, r, d, x) = answer_made (carrying m n) (sized m n k limit) cs u i l e in
+      let (a, r, d, x) = answer_made (measured_payload m n) (measured_size m n k limit) cs u i l e in
       let ev = accepted_events m n k limit cs in
       let w : Tally m ev u i a.value = subst (Tally m ev u i) (sym x) (worth_mark ev m admits laws n k limit ranged u i l r e (rows_worth d)) in
       let (f, fs, all, is) = tally_flows m admits laws ev u i a.value w in
@@ -71,5 +72,5 @@ module _ {V : Type 0} (m : Meaning V) (admits : V → Type 0) (laws : Lawful m a
 pub law_of_runs : {V : Type 0} (m : Meaning V) (admits : V → Type 0) → Lawful m admits → LawOfRuns m
 law_of_runs m admits laws = record {
   marks_valued = λ n k limit cs u i l e. valued m admits laws n k limit cs u i l e;
-  order_free = λ n k limit cs ds same. order_free (carrying m n) (sized m n k limit) cs ds same;
+  order_free = λ n k limit cs ds same. order_free (measured_payload m n) (measured_size m n k limit) cs ds same;
 }

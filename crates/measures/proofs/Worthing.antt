@@ -1,7 +1,7 @@
 -- What a mark is worth by flags and values that are read.
 use Rattle.std.proofs.Common.{◌≡◌, ℕ, zero, suc, ◌<◌, Bool, cond, List, Some, Option, refl, ap, ap₂, ◌∙◌, arith}
-use Rattle.history.specs.Rows.{Cell}
-use Rattle.causality.specs.Loads.{Reads}
+use Rattle.history.specs.declared.cells.Cell.{Cell}
+use Rattle.causality.specs.Payloads.{Reads}
 use Rattle.measures.specs.Measures.{Meaning}
 use Rattle.measures.specs.Worths.{plus, gathered}
 use Rattle.measures.specs.Calls.{flagged_by}

@@ -3,11 +3,12 @@ use Rattle.std.proofs.Common.{◌≡◌, ℕ, List, [], ◌∷◌, map, Some, No
 use Rattle.std.specs.Option.{option_map}
 use Rattle.std.proofs.lemmas.Bool.{ltb-true}
 use Rattle.history.specs.Counting.{Among}
-use Rattle.history.specs.Events.{Events, mark, Place}
+use Rattle.history.specs.Events.{Events, Place}
+use Rattle.history.specs.declared.calls.Event.TheVariants.{Mark}
 use Rattle.history.specs.Flows.{letter, letter_at}
 use Rattle.history.specs.HappenedBefore.{Before}
 use Rattle.history.specs.Marks.{IsMark}
-use Rattle.history.specs.Rows.{Cell}
+use Rattle.history.specs.declared.cells.Cell.{Cell}
 use Rattle.history.proofs.Flows.{Flow, flow_longer}
 use Rattle.history.proofs.Holds.{Holds}
 use Rattle.history.proofs.Lists.{among_map, among_unmap, distinct_map}
@@ -15,7 +16,7 @@ use Rattle.history.proofs.Preceding.{before_past, past_before, top_immediate, im
 use Rattle.history.proofs.Sound.{Ranged}
 use Rattle.measures.specs.Words.{Letter, letter_of}
 use Rattle.measures.specs.Measures.{Meaning, Lawful, Fits}
-use Rattle.measures.specs.Worths.{plus, gathered, worth, sized}
+use Rattle.measures.specs.Worths.{plus, gathered, worth, measured_size}
 use Rattle.measures.proofs.Totals.{total, carried_back, total_longer}
 use Rattle.measures.proofs.Gathering.{Tally, Gathered, gathered_all}
 
@@ -27,11 +28,11 @@ stepped : {V : Type 0} (m : Meaning V) (c l : Letter) → c ≡ l → (o t : Opt
 stepped m c l d o t s y x = rw (s, x, d) refl
 
 -- the letter of an accepted mark is the measure's
-pub mark_fits : {V : Type 0} (m : Meaning V) (n k limit : ℕ) (ev : Events) → Ranged ev (sized m n k limit) → (u i : ℕ) → IsMark ev u i → Fits m (letter_at ev (u, i))
+pub mark_fits : {V : Type 0} (m : Meaning V) (n k limit : ℕ) (ev : Events) → Ranged ev (measured_size m n k limit) → (u i : ℕ) → IsMark ev u i → Fits m (letter_at ev (u, i))
 mark_fits m n k limit ev rg u i (l, e) = subst (Fits m) (sym (ap (letter u) e)) (ltb-true (letter_of u l) m.labels (rg.label u i l e))
 
-module _ {V : Type 0} (ev : Events) (m : Meaning V) (admits : V → Type 0) (laws : Lawful m admits) (n k limit : ℕ) (rg : Ranged ev (sized m n k limit))
-    (u i l : ℕ) (r : ℕ → Cell V) (e : ev u i ≡ Some (mark l)) (h : Holds ev m.start (Tally m ev) u i r) where
+module _ {V : Type 0} (ev : Events) (m : Meaning V) (admits : V → Type 0) (laws : Lawful m admits) (n k limit : ℕ) (rg : Ranged ev (measured_size m n k limit))
+    (u i l : ℕ) (r : ℕ → Cell V) (e : ev u i ≡ Some (Mark l)) (h : Holds ev m.start (Tally m ev) u i r) where
   the : Gathered ev m u i r n
   the = gathered_all ev m admits laws u i r h.cells n
 

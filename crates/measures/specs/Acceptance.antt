@@ -7,7 +7,7 @@ use Rattle.history.specs.Flows.{Longest, word}
 use Rattle.measures.specs.Words.{Word, Labels}
 use Rattle.measures.specs.Measures.{Meaning, carried, joined}
 use Rattle.measures.specs.Automata.{next, leads}
-use Rattle.measures.specs.Laws.{Judged}
+use Rattle.measures.specs.Laws.{TellsOfFlows}
 use Rattle.measures.specs.Boards.{AtAnswers}
 use Rattle.measures.specs.Formats.{labels_in, start_in, finals_in, table_in}
 
@@ -42,7 +42,7 @@ pub record Reaches (b : List ℕ) (ev : Events) (u i : ℕ) (set : ℕ) (some al
   -- the set holds exactly the states to which their words lead
   pub states : (q : ℕ) → Member q set ↔ ((f : List Place) × Longest ev u i f × (state_after b (word ev f) ≡ q))
   -- some is yes exactly when one of their words is accepted, all exactly when each is
-  pub verdict : Judged (λ w. IsTrue (accepts b w)) some all ev u i
+  pub verdict : TellsOfFlows (λ w. IsTrue (accepts b w)) some all ev u i
 
 -- So it is of the set answered at each accepted mark of every list of calls.
 abbrev pub MarksReach : List ℕ → Meaning ℕ → (ℕ → Bool) → (ℕ → Bool) → Type 0

@@ -1,9 +1,10 @@
 -- What a mark is worth under a measure, and what a board's cells carry and its size is.
 use Rattle.std.specs.Prelude.{ℕ, zero, suc, if◌then◌else◌, Some, None, Option}
 use Rattle.std.specs.Option.{unwrap_or}
-use Rattle.history.specs.Rows.{Cell, Payload}
+use Rattle.history.specs.Rows.{Payload}
+use Rattle.history.specs.declared.cells.Cell.{Cell}
 use Rattle.history.specs.Runs.{Size}
-use Rattle.causality.specs.Loads.{Load}
+use Rattle.causality.specs.Payloads.{PayloadRules}
 use Rattle.measures.specs.Words.{letter_of}
 use Rattle.measures.specs.Measures.{Meaning, fits}
 
@@ -25,13 +26,13 @@ module _ {V : Type 0} (m : Meaning V) where
   worth n r u l = m.step (unwrap_or (gathered r n) m.start) (letter_of u l)
 
   -- what the cells of a board of n units carry under the measure
-  abbrev pub carrying : ℕ → Payload V
-  carrying n = record { start = m.start; make = worth n }
+  abbrev pub measured_payload : ℕ → Payload V
+  measured_payload n = record { start = m.start; make = worth n }
 
   -- the size of a board of n units and k messages under the measure, whose units can make so many marks
-  abbrev pub sized : ℕ → ℕ → ℕ → Size
-  sized n k limit = record { units = n; messages = k; fits = fits m; limit = limit }
+  abbrev pub measured_size : ℕ → ℕ → ℕ → Size
+  measured_size n k limit = record { units = n; messages = k; fits = fits m; limit = limit }
 
   -- what the cells of a board carry under the measure, and the labels that it has
-  abbrev pub load : Load V
-  load = record { start = m.start; make = worth; fits = fits m }
+  abbrev pub measured_rules : PayloadRules V
+  measured_rules = record { start = m.start; make = worth; fits = fits m }

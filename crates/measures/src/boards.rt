@@ -1,20 +1,24 @@
-// Boards whose cells carry the values of a measure.
-ghost use Rattle.std.specs.Prelude.{◌≡◌, IfOk};
-ghost use Rattle.history.specs.Events.{mark};
+//! Boards whose cells carry the values of a measure, and the calls that a judge answers too.
+ghost use Rattle.std.specs.Prelude.{◌≡◌, OnOk};
+ghost use Rattle.history.specs.declared.calls.Answer.TheVariants.{Marked as marked};
+ghost use Rattle.history.specs.declared.calls.Event.TheVariants.{Mark};
+ghost use Rattle.history.specs.Board.{answer_map};
 ghost use Rattle.history.specs.Runs.{call};
-ghost use Rattle.causality.specs.Calls.{Obeys, lent};
-ghost use Rattle.measures.specs.Worths.{load};
-ghost use Rattle.measures.specs.Calls.{judged_told};
+ghost use Rattle.causality.specs.Boards.{memory, payload_of, setup_of};
+ghost use Rattle.causality.specs.Calls.{result_as};
+ghost use Rattle.measures.specs.Worths.{measured_rules};
+ghost use Rattle.measures.specs.Calls.{ObeysJudged, judged_value};
 ghost use Rattle.measures.specs.Boards.{MarksGood};
+ghost use Rattle.measures.specs.Laws.{MarksJudged};
 
 use super::Measure;
-use super::judges::{Judge, Verdict, verdicts};
+use super::judges::{Judge, JudgedValue, verdicts};
 use super::marking::mark_value;
-use causality::{Board, Clock, Marked, Payload};
+use causality::{Board, Payload};
 use grid::Grid;
-use history::{Post, Refusal};
+use history::{Answer, Call, Clock, Marked, Post, Refusal};
 
-// What the cells of a board under a measure carry: what the longest flows that end at a unit's last mark are worth.
+/// What the cells of a board under a measure carry: what the longest flows that end at a unit's last mark are worth.
 #[derive(Clone, Copy)]
 pub struct Measured<M: Measure> {
     pub measure: M,
@@ -23,7 +27,7 @@ pub struct Measured<M: Measure> {
 impl<M: Measure> Payload for Measured<M> {
     type Value = M::Value;
 
-    ghost load = { λ p. load (M.meaning p.measure) };
+    ghost rules = { λ p. measured_rules (M.meaning p.measure) };
 
     fn start(&self) -> M::Value {
         self.measure.start()
@@ -38,15 +42,28 @@ impl<M: Measure> Payload for Measured<M> {
     }
 }
 
-// What an accepted mark is told under a judge: what it is told under any measure, and what the judge says of its value.
-#[derive(Clone, Copy, PartialEq, Eq, Debug)]
-pub struct JudgedMark<V> {
-    pub mark: Marked<V>,
-    pub verdict: Verdict,
+// What a mark is answered, with the judge's verdict beside its value.
+fn judged_mark<J: Judge>(judge: &J, mark: Marked<J::Value>) -> Marked<JudgedValue<J::Value>>
+    ensures answer {
+        marked result ≡ answer_map (judged_value (J.Judge.some_of judge.now) (J.Judge.all_of judge.now)) (marked mark)
+    }
+    ensures flows {
+        MarksJudged (J.Measure.meaning judge.now) (J.Judge.some_of judge.now) (J.Judge.all_of judge.now) (J.Judge.good judge.now)
+    }
+{
+    let verdict = verdicts(judge, mark.value);
+    Marked {
+        clock: mark.clock,
+        predecessors: mark.predecessors,
+        value: JudgedValue {
+            value: mark.value,
+            verdict,
+        },
+    }
 }
 
-// A unit makes a mark with a label, under a judge: what a mark answers, and whether some, and whether all, of the longest flows that end
-// there are good (`verdict`).
+/// A unit makes a mark with a label, under a judge: what `Board::mark` answers, and beside its value whether some, and whether all, of the longest
+/// flows that end there are good (`good`). Refuses as that call does.
 pub fn mark_judged<J: Judge>(
     board: &Board<Measured<J>>,
     clocks: &mut Grid<'_, Clock>,
@@ -55,12 +72,54 @@ pub fn mark_judged<J: Judge>(
     posts: &[Post],
     unit: usize,
     label: u8,
-) -> Result<JudgedMark<J::Value>, Refusal>
-    ensures obeys { Obeys (load (J.Measure.meaning board.now.payload.measure)) board.now.units board.now.messages (call unit (mark label))
-        (lent clocks.old flags.old values.old posts.now) (lent clocks.new flags.new values.new posts.now) (judged_told result) }
-    ensures verdict { IfOk result (λ r. (r.verdict.some ≡ J.Judge.some_of board.now.payload.measure r.mark.value) × (r.verdict.all ≡ J.Judge.all_of board.now.payload.measure r.mark.value) × MarksGood (J.Measure.meaning board.now.payload.measure) (J.Judge.some_of board.now.payload.measure) (J.Judge.all_of board.now.payload.measure) (J.Judge.good board.now.payload.measure)) }
+) -> Result<Marked<JudgedValue<J::Value>>, Refusal>
+    ensures obeys {
+        let judge = (payload_of board.now).measure in
+        ObeysJudged (J.Judge.some_of judge) (J.Judge.all_of judge) (setup_of board.now) (call unit (Mark label))
+            (memory clocks.old flags.old values.old posts.now)
+            (memory clocks.new flags.new values.new posts.now) (result_as marked result)
+    }
+    ensures good {
+        let judge = (payload_of board.now).measure in
+        OnOk result (MarksGood (J.Measure.meaning judge) (J.Judge.some_of judge) (J.Judge.all_of judge) (J.Judge.good judge))
+    }
 {
     let mark = board.mark(clocks, flags, values, posts, unit, label)?;
-    let verdict = verdicts(&board.payload.measure, mark.value);
-    Ok(JudgedMark { mark, verdict })
+    Ok(judged_mark(&board.payload().measure, mark))
+}
+
+/// Hands one call to a board under a judge: what `Board::hand` answers, and beside a mark's value the judge's verdict. Refuses as that call does.
+pub fn hand_judged<J: Judge>(
+    board: &Board<Measured<J>>,
+    clocks: &mut Grid<'_, Clock>,
+    flags: &mut Grid<'_, bool>,
+    values: &mut Grid<'_, J::Value>,
+    posts: &mut [Post],
+    call: Call,
+) -> Result<Answer<JudgedValue<J::Value>>, Refusal>
+    ensures {
+        let judge = (payload_of board.now).measure in
+        ObeysJudged (J.Judge.some_of judge) (J.Judge.all_of judge) (setup_of board.now) call
+            (memory clocks.old flags.old values.old posts.old)
+            (memory clocks.new flags.new values.new posts.new) result
+    }
+{
+    let answer = board.hand(clocks, flags, values, posts, call)?;
+    Ok(judged_answer(&board.payload().measure, answer))
+}
+
+/// What a call is answered, with the judge's verdict beside the value of a mark.
+pub fn judged_answer<J: Judge>(
+    judge: &J,
+    answer: Answer<J::Value>,
+) -> Answer<JudgedValue<J::Value>>
+    ensures {
+        result ≡ answer_map (judged_value (J.Judge.some_of judge.now) (J.Judge.all_of judge.now)) answer
+    }
+{
+    match answer {
+        Answer::Sent(clock) => Answer::Sent(clock),
+        Answer::Received(clock) => Answer::Received(clock),
+        Answer::Marked(mark) => Answer::Marked(judged_mark(judge, mark)),
+    }
 }

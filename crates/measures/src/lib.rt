@@ -20,9 +20,9 @@ mod sizes;
 pub mod spans;
 mod tables;
 
-pub use boards::{JudgedMark, Measured, mark_judged};
+pub use boards::{Measured, hand_judged, judged_answer, mark_judged};
 pub use counts::FlowCount;
-pub use judges::{Judge, Verdict, verdicts};
+pub use judges::{Judge, JudgedValue, Verdict, verdicts};
 pub use marking::mark_value;
 pub use patterns::Pattern;
 pub use refusals::{Fault, Refusal};

@@ -1,8 +1,8 @@
 // What a mark is worth: the values of the flows that go on through it.
 ghost use Rattle.std.specs.Prelude.{◌≡◌, ℕ, ◌^◌, ◌<◌, Some};
 ghost use Rattle.measures.specs.Worths.{plus, gathered, worth};
-ghost use Rattle.history.specs.Rows.{Cell};
-ghost use Rattle.causality.specs.Loads.{Reads};
+ghost use Rattle.history.specs.declared.cells.Cell.{Cell};
+ghost use Rattle.causality.specs.Payloads.{Reads};
 ghost use Rattle.measures.specs.Calls.{flagged_by};
 
 use super::Measure;

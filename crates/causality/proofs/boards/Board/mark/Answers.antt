@@ -1,6 +1,6 @@
 use Rattle.std.proofs.Common.{◌<◌, cond, eqb, false, true, refl, sym, ap, arith, rules}
 use Rattle.grid.proofs.Written.{row_same, cell_set}
-use Rattle.causality.specs.Calls.{lent}
+use Rattle.causality.specs.Boards.{memory}
 use Rattle.causality.proofs.Calling.{room_row}
 use Rattle.causality.proofs.Marks.{noted, flagged_row}
 use Rattle.causality.proofs.Writing.{reset_in}
@@ -9,26 +9,27 @@ use Rattle.causality.proofs.boards.Board.mark.Goals as goal
 pub worth_in-value-requires-clause-row : goal.worth_in-value-requires-clause-row
 worth_in-value-requires-clause-row g c =
     let a = c.args in
-    let (r, fit, is, below) = c.in_ok-own.ensures in
+    let r = c.in_ok-own.ensures.0.ready in
     room_row r.values a.unit (omega (arith, r.unit))
 
 pub returns : goal.returns
 returns g c =
     let a = c.args in
-    let load = g.P.Payload.load a.self.now.payload in
+    let rules = g.P.Payload.rules a.self.now.payload in
     let n = a.self.now.units in
     let k = a.self.now.messages in
     let u = a.unit in
-    let old = lent a.clocks.now a.flags.now a.values.now a.posts.now in
-    let (r, fit, is, below) = c.in_ok-own.ensures in
+    let old = memory a.clocks.now a.flags.now a.values.now a.posts.now in
+    let (may, is) = c.in_ok-own.ensures in
+    let r = may.ready in
     let hu : u < n = r.unit in
     record {
-      follows = noted load n k u a.label fit old _ r (rw (sym is) below) _ _ _
+      follows = noted rules n k u a.label may.label old _ r may.below _ _ _
           (cell_set n u 0 a.clocks.now.cells.now (room_row r.clocks u (omega arith)) u _ _ hu refl)
           (reset_in r.flags false false true _ _ u u (omega arith) hu c.take_flags-predecessors.ensures.cells refl)
           (row_same
-          (reset_in r.values load.start c.start.result _ _ _ u u (omega arith) hu c.reset_row.ensures refl)
-          (λ j. cond (eqb j u) c.worth_in-value.result load.start) (λ j h. ap (cond (eqb j u) c.worth_in-value.result) c.start.ensures))
+          (reset_in r.values rules.start c.start.result _ _ _ u u (omega arith) hu c.reset_row.ensures refl)
+          (λ j. cond (eqb j u) c.worth_in-value.result rules.start) (λ j h. ap (cond (eqb j u) c.worth_in-value.result) c.start.ensures))
           refl
           (omega (arith, is))
           (flagged_row r.flags (omega (arith, a.self.now.few_units)) u (omega arith) _ c.take_flags-predecessors.ensures.units)

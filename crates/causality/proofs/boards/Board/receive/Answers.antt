@@ -1,5 +1,5 @@
 use Rattle.std.proofs.Common.{◌+◌, false, refl, arith, rules}
-use Rattle.causality.specs.Calls.{lent}
+use Rattle.causality.specs.Boards.{memory}
 use Rattle.causality.proofs.Receiving.{received, rows}
 use Rattle.causality.proofs.Writing.{row_merged, rows_within}
 use Rattle.causality.proofs.boards.Board.receive.Goals as goal
@@ -25,10 +25,10 @@ merge_rows-requires-clause-values g c =
 pub returns : goal.returns
 returns g c =
     let a = c.args in
-    let load = g.P.Payload.load a.self.now.payload in
+    let rules = g.P.Payload.rules a.self.now.payload in
     let n = a.self.now.units in
     let k = a.self.now.messages in
-    let old = lent a.clocks.now a.flags.now a.values.now a.posts.now in
+    let old = memory a.clocks.now a.flags.now a.values.now a.posts.now in
     let (r, m, was) = c.in_ok-post.ensures in
     let cs = a.clocks.now.cells.now in
     let fs = a.flags.now.cells.now in
@@ -37,10 +37,10 @@ returns g c =
     let t = rows n a.unit a.message in
     let start = c.start.result in
     record {
-      follows = received load n k a.unit a.message old _ r m _ _ was
-          (row_merged r.clocks 0 load.start start c.start.ensures cs fs vs t (λ x. x.clock) _ refl (omega (arith, r.unit)) w.clocks)
-          (row_merged r.flags false load.start start c.start.ensures cs fs vs t (λ x. x.flag) _ refl (omega (arith, r.unit)) w.flags)
-          (row_merged r.values load.start load.start start c.start.ensures cs fs vs t (λ x. x.value) _ refl (omega (arith, r.unit)) w.values)
+      follows = received rules n k a.unit a.message old _ r m _ _ was
+          (row_merged r.clocks 0 rules.start start c.start.ensures cs fs vs t (λ x. x.clock) _ refl (omega (arith, r.unit)) w.clocks)
+          (row_merged r.flags false rules.start start c.start.ensures cs fs vs t (λ x. x.flag) _ refl (omega (arith, r.unit)) w.flags)
+          (row_merged r.values rules.start rules.start start c.start.ensures cs fs vs t (λ x. x.value) _ refl (omega (arith, r.unit)) w.values)
           refl
           (assumption c.own_clock.ensures);
       loans = search rules;

@@ -1,0 +1,36 @@
+//! Calls on a board, and what accepted ones are answered: the types that the rules and the code share.
+
+/// A number of marks of one unit. Its largest value is the most marks that a unit can make.
+pub type Clock = u16;
+
+/// What a unit does: it sends a message, receives one, or makes a mark with a label.
+#[derive(Clone, Copy, PartialEq, Eq, Debug)]
+pub enum Event {
+    Send(usize),
+    Receive(usize),
+    Mark(u8),
+}
+
+/// A call: a unit, and what it does.
+#[derive(Clone, Copy, PartialEq, Eq, Debug)]
+pub struct Call {
+    pub unit: usize,
+    pub event: Event,
+}
+
+/// What an accepted mark is answered: its own number among its unit's marks, from 1; a number with bit v for each unit v that has an
+/// immediate predecessor of it; and its value.
+#[derive(Clone, Copy, PartialEq, Eq, Debug)]
+pub struct Marked<V> {
+    pub clock: Clock,
+    pub predecessors: u64,
+    pub value: V,
+}
+
+/// What an accepted call is answered: a send or a receipt the number of its unit's marks so far.
+#[derive(Clone, Copy, PartialEq, Eq, Debug)]
+pub enum Answer<V> {
+    Sent(Clock),
+    Received(Clock),
+    Marked(Marked<V>),
+}
