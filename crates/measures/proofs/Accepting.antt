@@ -49,11 +49,11 @@ within_one f q =
     (λ m k i. subst (λ (j : ℕ). Member j f) (bit_pow q k i) m)
     (within_members (2 ^ q) f)
 
-module _ (states labels start : ℕ) (table : List ℕ) (counted : (0 < labels) × (labels ≤ 64)) (begins : start < states) (complete : (k : ℕ) → k < states * labels → slice_index table k < states) where
+module _ (states labels start : ℕ) (table : List ℕ) (in_range : (0 < labels) × (labels ≤ 64)) (begins : start < states) (complete : (k : ℕ) → k < states * labels → slice_index table k < states) where
   carried_pow : (q : ℕ) (w : Word) → q < states → Labels labels w → carried_from (state_sets states labels start table) (2 ^ q) w ≡ 2 ^ leads (next labels table) q w
   carried_pow q [] hq ls = refl
   carried_pow q (l ∷ w) hq ls =
-      rw (lt-ltb l labels ls.0, image_pow (next labels table l) states q hq) (carried_pow (next labels table l q) w (next_below states labels start table counted begins complete l q ls.0 hq) ls.1)
+      rw (lt-ltb l labels ls.0, image_pow (next labels table l) states q hq) (carried_pow (next labels table l q) w (next_below states labels start table in_range begins complete l q ls.0 hq) ls.1)
 
   pub carried_one : (w : Word) → Labels labels w → carried (state_sets states labels start table) w ≡ 2 ^ leads (next labels table) start w
   carried_one w ls = carried_pow start w begins ls

@@ -5,12 +5,12 @@ use Rattle.std.proofs.lemmas.List.{length-map}
 use Rattle.history.specs.Counting.{Among, Exactly}
 use Rattle.history.specs.Events.{Events, Place}
 use Rattle.history.specs.Flows.{Longest, letter_at, word}
-use Rattle.measures.specs.declared.spans.Ends.{Ends}
+use Rattle.measures.specs.declared.spans.Lengths.{Lengths}
 use Rattle.measures.specs.Words.{Word}
 use Rattle.measures.specs.Measures.{Spelled, carried_from, carried, joined}
 use Rattle.measures.specs.Counts.{flow_count, flow_count_lawful, Counted, MarksCounted}
 use Rattle.measures.specs.Laws.{join_over, accepted_events, AtMarks}
-use Rattle.measures.specs.Spans.{ends, longer, span, span_lawful, Spanned, MarksSpanned}
+use Rattle.measures.specs.Spans.{lengths, longer, span, span_lawful, Spanned, MarksSpanned}
 use Rattle.measures.proofs.BoardLaw.{at_answers}
 use Rattle.measures.proofs.Judging.{flow_spelled}
 use Rattle.measures.proofs.Valuing.{ranged, valued}
@@ -26,9 +26,9 @@ count_joined labels c one v [] h = omega arith
 count_joined labels c one v (f ∷ fs) h = count_joined labels c one (min (v + c f) 4294967295) fs (omega arith) ∙ (let e = one f in omega arith)
 
 counted_told : (labels : ℕ) → (0 < labels) × (labels ≤ 64) → AtMarks (flow_count labels) Counted
-counted_told labels counted n k limit cs u i l e =
+counted_told labels in_range n k limit cs u i l e =
     let m = flow_count labels in
-    let v = valued m (λ v. v < 2 ^ 32) (flow_count_lawful labels counted) n k limit cs u i l e in
+    let v = valued m (λ v. v < 2 ^ 32) (flow_count_lawful labels in_range) n k limit cs u i l e in
     let ev = accepted_events m n k limit cs in
     let one = count_carried labels 1 (word ev v.flow) in
     let is : v.answered.value ≡ min (length (v.flow ∷ v.flows)) 4294967295 =
@@ -38,10 +38,10 @@ counted_told labels counted n k limit cs u i l e =
     (v, (length (v.flow ∷ v.flows), (v.flow ∷ v.flows, v.all, refl), is))
 
 pub marks_counted : (labels : ℕ) → (0 < labels) × (labels ≤ 64) → MarksCounted (flow_count labels)
-marks_counted labels counted = at_answers (flow_count labels) Counted (counted_told labels counted)
+marks_counted labels in_range = at_answers (flow_count labels) Counted (counted_told labels in_range)
 
 -- r has the least shortest and the greatest longest number of v and of what c makes of the list
-record Extremes {A : Type 0} (c : A → Ends) (v : Ends) (fs : List A) (r : Ends) : Type 0 where
+record Extremes {A : Type 0} (c : A → Lengths) (v : Lengths) (fs : List A) (r : Lengths) : Type 0 where
   low_first : r.shortest ≤ v.shortest
   low_rest : (f : A) → Among f fs → r.shortest ≤ (c f).shortest
   low_from : (r.shortest ≡ v.shortest) ⊎ ((f : A) × Among f fs × (r.shortest ≡ (c f).shortest))
@@ -56,7 +56,7 @@ max_either : (a b : ℕ) → (max a b ≡ a) ⊎ (max a b ≡ b)
 max_either a b = elim (cases_lt a b) [ inl h ↦ inr (omega arith) | inr h ↦ inl (omega arith) ]
 
 module _ (labels : ℕ) where
-  span_joined : {A : Type 0} (c : A → Ends) (v : Ends) (fs : List A) → Extremes c v fs (joined (span labels) v (map c fs))
+  span_joined : {A : Type 0} (c : A → Lengths) (v : Lengths) (fs : List A) → Extremes c v fs (joined (span labels) v (map c fs))
   span_joined c v [] = record {
     low_first = omega arith;
     low_rest = λ f i. absurd i;
@@ -66,7 +66,7 @@ module _ (labels : ℕ) where
     high_from = inl refl;
   }
   span_joined c v (f ∷ fs) =
-      let both = ends (min v.shortest (c f).shortest) (max v.longest (c f).longest) in
+      let both = lengths (min v.shortest (c f).shortest) (max v.longest (c f).longest) in
       let x = span_joined c both fs in
       let low = x.low_first in
       let high = x.high_first in
@@ -86,26 +86,26 @@ module _ (labels : ℕ) where
       }
 
   -- along a word of labels each end grows by the number of the word's labels
-  span_carried : (a b : ℕ) (w : Word) → a ≤ 65535 → b ≤ 65535 → Spelled (span labels) w → carried_from (span labels) (ends a b) w ≡ ends (min (a + length w) 65535) (min (b + length w) 65535)
-  span_carried a b [] ha hb ls = ap₂ ends (omega arith) (omega arith)
-  span_carried a b (l ∷ w) ha hb ls = rw (lt-ltb l labels ls.0) (span_carried (longer a) (longer b) w (omega arith) (omega arith) ls.1 ∙ ap₂ ends (omega arith) (omega arith))
+  span_carried : (a b : ℕ) (w : Word) → a ≤ 65535 → b ≤ 65535 → Spelled (span labels) w → carried_from (span labels) (lengths a b) w ≡ lengths (min (a + length w) 65535) (min (b + length w) 65535)
+  span_carried a b [] ha hb ls = ap₂ lengths (omega arith) (omega arith)
+  span_carried a b (l ∷ w) ha hb ls = rw (lt-ltb l labels ls.0) (span_carried (longer a) (longer b) w (omega arith) (omega arith) ls.1 ∙ ap₂ lengths (omega arith) (omega arith))
 
   module _ (ev : Events) (u i : ℕ) (spelled : (f : List Place) → Longest ev u i f → Spelled (span labels) (word ev f)) where
-    abbrev along : List Place → Ends
+    abbrev along : List Place → Lengths
     along f = carried (span labels) (word ev f)
 
-    -- along a longest flow both ends are the number of its marks
-    along_is : (f : List Place) → Longest ev u i f → along f ≡ ends (min (length f) 65535) (min (length f) 65535)
+    -- along a longest flow both lengths are the number of its marks
+    along_is : (f : List Place) → Longest ev u i f → along f ≡ lengths (min (length f) 65535) (min (length f) 65535)
     along_is f h =
         let marks : length (word ev f) ≡ length f = length-map f (letter_at ev) in
         span_carried 0 0 (word ev f) (omega arith) (omega arith) (spelled f h)
-        ∙ ap₂ ends (omega arith) (omega arith)
+        ∙ ap₂ lengths (omega arith) (omega arith)
 
     low_is : (f : List Place) → Longest ev u i f → (along f).shortest ≡ min (length f) 65535
-    low_is f h = ap (λ (e : Ends). e.shortest) (along_is f h)
+    low_is f h = ap (λ (e : Lengths). e.shortest) (along_is f h)
 
     high_is : (f : List Place) → Longest ev u i f → (along f).longest ≡ min (length f) 65535
-    high_is f h = ap (λ (e : Ends). e.longest) (along_is f h)
+    high_is f h = ap (λ (e : Lengths). e.longest) (along_is f h)
 
     spanned : (f : List Place) (fs : List (List Place)) → Exactly (Longest ev u i) (f ∷ fs) → Spanned ev u i (join_over (span labels) ev f fs)
     spanned f fs all =
@@ -125,13 +125,13 @@ module _ (labels : ℕ) where
         }
 
   spanned_told : (0 < labels) × (labels ≤ 64) → AtMarks (span labels) Spanned
-  spanned_told counted n k limit cs u i l e =
-      let admits = λ (v : Ends). (v.shortest ≤ v.longest) × (v.longest ≤ 65535) in
-      let laws = span_lawful labels counted in
+  spanned_told in_range n k limit cs u i l e =
+      let admits = λ (v : Lengths). (v.shortest ≤ v.longest) × (v.longest ≤ 65535) in
+      let laws = span_lawful labels in_range in
       let v = valued (span labels) admits laws n k limit cs u i l e in
       let ev = accepted_events (span labels) n k limit cs in
       let rg = ranged (span labels) admits laws n k limit cs in
       (v, subst (Spanned ev u i) (sym v.value_is) (spanned ev u i (λ f h. flow_spelled (span labels) n k limit ev rg u i f h.0 h.1) v.flow v.flows v.all))
 
   pub marks_spanned : (0 < labels) × (labels ≤ 64) → MarksSpanned (span labels)
-  marks_spanned counted = at_answers (span labels) Spanned (spanned_told counted)
+  marks_spanned in_range = at_answers (span labels) Spanned (spanned_told in_range)

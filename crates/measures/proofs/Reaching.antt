@@ -17,7 +17,7 @@ use Rattle.measures.proofs.Valuing.{ranged}
 use Rattle.measures.proofs.Judging.{some_decided, marks_judged}
 use Rattle.measures.proofs.Recognizing.{member, recognizes}
 
-module _ (b : List ℕ) (states labels start finals : ℕ) (table : List ℕ) (parts : PatternOf b states labels start finals table) (counted : (0 < labels) × (labels ≤ 64)) (begins : start < states) (complete : (k : ℕ) → k < states * labels → get_or table k 0 < states) where
+module _ (b : List ℕ) (states labels start finals : ℕ) (table : List ℕ) (parts : PatternOf b states labels start finals table) (in_range : (0 < labels) × (labels ≤ 64)) (begins : start < states) (complete : (k : ℕ) → k < states * labels → get_or table k 0 < states) where
   there : (w : Word) → Labels labels w → Labels (labels_in b) w
   there w ls = subst (λ (n : ℕ). Labels n w) parts.labels_are ls
 
@@ -26,7 +26,7 @@ module _ (b : List ℕ) (states labels start finals : ℕ) (table : List ℕ) (p
   holds_judges q = record {
     joins = λ x y _ _. has_or x y q;
     decides = λ l w ls.
-        (let (to, from) = member b states labels start finals table parts counted begins complete (l ∷ w) (there (l ∷ w) ls) q in
+        (let (to, from) = member b states labels start finals table parts in_range begins complete (l ∷ w) (there (l ∷ w) ls) q in
         Decides-like (has (carried (state_sets states labels start table) (l ∷ w)) q) to from (Decides-eqb (bit (carried (state_sets states labels start table) (l ∷ w)) q) 1));
   }
 
@@ -39,8 +39,8 @@ module _ (b : List ℕ) (states labels start finals : ℕ) (table : List ℕ) (p
   reached_told n k limit cs u i l e =
       let m = state_sets states labels start table in
       let admits = λ (set : ℕ). (0 < set) × (set < 2 ^ states) in
-      let laws = state_sets_lawful states labels start table counted begins complete in
-      let told = recognizes b states labels start finals table parts counted begins complete in
+      let laws = state_sets_lawful states labels start table in_range begins complete in
+      let told = recognizes b states labels start finals table parts in_range begins complete in
       let (v, judged) = marks_judged m admits laws (λ set. meets set finals) (λ set. within set finals) (λ w. IsTrue (accepts b w))
       (record { joins = λ x y _ _. meets_or finals x y; decides = accepted_decides (λ set. meets set finals) told.some_is })
       (record { joins = λ x y _ _. within_or finals x y; decides = accepted_decides (λ set. within set finals) told.all_is })

@@ -21,7 +21,7 @@ padded_at n t i = grind (arith, common_steps)
 pub padded_complete : (n bound count : ℕ) (t table : List ℕ) → table ≡ padded n t → ((k : ℕ) → k < count → get_or t k 0 < bound) → (k : ℕ) → k < count → get_or table k 0 < bound
 padded_complete n bound count t table is below k h = rw (is, padded_at n t k) (below k h)
 
-module _ (b : List ℕ) (states labels start finals : ℕ) (table : List ℕ) (parts : PatternOf b states labels start finals table) (counted : (0 < labels) × (labels ≤ 64)) (begins : start < states) (complete : (k : ℕ) → k < states * labels → get_or table k 0 < states) where
+module _ (b : List ℕ) (states labels start finals : ℕ) (table : List ℕ) (parts : PatternOf b states labels start finals table) (in_range : (0 < labels) × (labels ≤ 64)) (begins : start < states) (complete : (k : ℕ) → k < states * labels → get_or table k 0 < states) where
   state_read : (w : Word) → leads (next labels table) start w ≡ state_after b w
   state_read w =
       ap (λ (d : Letter → ℕ → ℕ). leads d start w)
@@ -35,7 +35,7 @@ module _ (b : List ℕ) (states labels start finals : ℕ) (table : List ℕ) (p
   here w ls = subst (λ (n : ℕ). Labels n w) (sym parts.labels_are) ls
 
   one : (w : Word) → Labels (labels_in b) w → carried (state_sets states labels start table) w ≡ 2 ^ state_after b w
-  one w ls = carried_one states labels start table counted begins complete w (here w ls) ∙ ap (λ (q : ℕ). 2 ^ q) (state_read w)
+  one w ls = carried_one states labels start table in_range begins complete w (here w ls) ∙ ap (λ (q : ℕ). 2 ^ q) (state_read w)
 
   pub member : (w : Word) → Labels (labels_in b) w → (q : ℕ) → Member q (carried (state_sets states labels start table) w) ↔ (state_after b w ≡ q)
   member w ls q = subst (λ (set : ℕ). Member q set ↔ (state_after b w ≡ q)) (sym (one w ls)) (only_member (state_after b w) q)

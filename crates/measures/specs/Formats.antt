@@ -3,7 +3,8 @@ use Rattle.std.specs.Prelude.{◌≡◌, ℕ, ◌+◌, ◌-◌, ◌*◌, ◌^◌
 use Rattle.std.specs.Option.{option_or}
 use Rattle.measures.specs.declared.refusals.Fault.{Fault}
 use Rattle.measures.specs.declared.refusals.Refusal.TheVariants.{PatternTooShort, NotAPattern, StateCount, LabelCount, StartState, FinalStates, TableTooShort, EntryTooLarge, NotARelabelling}
-use Rattle.measures.specs.Refusals.{fault, ask, counted}
+use Rattle.measures.specs.Limits.{most_entries}
+use Rattle.measures.specs.Refusals.{fault, ask, is_count}
 
 -- the place of the first entry that is not below the bound
 abbrev pub first_over : ℕ → List ℕ → Option ℕ
@@ -30,6 +31,14 @@ little_endian e =
 -- A pattern's bytes are 20 in hexadecimal, the number of states, the number of labels, the start state, eight bytes of final states (bit q for
 -- state q), and the table of next states.
 
+-- the first byte of a pattern
+abbrev pub pattern_tag : ℕ
+pattern_tag = 0x20
+
+-- the number of bytes before its table
+abbrev pub head_size : ℕ
+head_size = 12
+
 -- the number of states
 abbrev pub states_in : List ℕ → ℕ
 states_in b = slice_index b 1
@@ -48,26 +57,26 @@ finals_in b = little_endian (take 8 (drop 4 b))
 
 -- the next states: a row for each state, with an entry for each label
 abbrev pub table_in : List ℕ → List ℕ
-table_in b = take (states_in b * labels_in b) (drop 12 b)
+table_in b = take (states_in b * labels_in b) (drop head_size b)
 
 -- the number of a pattern's bytes
 abbrev pub pattern_size : List ℕ → ℕ
-pattern_size b = 12 + states_in b * labels_in b
+pattern_size b = head_size + states_in b * labels_in b
 
 -- What is wrong with a pattern's first twelve bytes.
 abbrev pub head_fault : List ℕ → Option Fault
 head_fault b =
-    ask (nat_le 12 (length b)) (fault PatternTooShort (length b))
-    (ask (slice_index b 0 == 0x20) (fault NotAPattern 0)
-    (ask (counted (states_in b)) (fault StateCount 1)
-    (ask (counted (labels_in b)) (fault LabelCount 2)
+    ask (nat_le head_size (length b)) (fault PatternTooShort (length b))
+    (ask (slice_index b 0 == pattern_tag) (fault NotAPattern 0)
+    (ask (is_count (states_in b)) (fault StateCount 1)
+    (ask (is_count (labels_in b)) (fault LabelCount 2)
     (ask (nat_lt (start_in b) (states_in b)) (fault StartState 3)
     (ask (nat_lt (finals_in b) (2 ^ states_in b)) (fault FinalStates 4)
     None)))))
 
 -- What is wrong with a pattern's bytes.
 abbrev pub pattern_fault : List ℕ → Option Fault
-pattern_fault b = option_or (head_fault b) (table_fault b 12 (states_in b * labels_in b) (states_in b))
+pattern_fault b = option_or (head_fault b) (table_fault b head_size (states_in b * labels_in b) (states_in b))
 
 -- a table with zeros after its entries, n in all
 abbrev pub padded : ℕ → List ℕ → List ℕ
@@ -79,9 +88,13 @@ pub record PatternOf (b : List ℕ) (states labels start finals : ℕ) (table : 
   pub labels_are : labels ≡ labels_in b
   pub start_is : start ≡ start_in b
   pub finals_are : finals ≡ finals_in b
-  pub table_is : table ≡ padded 4096 (table_in b)
+  pub table_is : table ≡ padded most_entries (table_in b)
 
 -- A relabelling's bytes, from the byte `at` of b on, are 30 in hexadecimal, the number of labels, and an entry for each.
+
+-- the first byte of a relabelling
+abbrev pub relabelling_tag : ℕ
+relabelling_tag = 0x30
 
 -- the number of labels
 abbrev pub relabelling_labels_in : List ℕ → ℕ → ℕ
@@ -94,9 +107,9 @@ entries_in b at = take (relabelling_labels_in b at) (drop (at + 2) b)
 -- What is wrong with a relabelling's first two bytes.
 abbrev pub relabelling_head_fault : List ℕ → ℕ → Option Fault
 relabelling_head_fault b at =
-    ask (nat_lt at (length b) && slice_index b at == 0x30) (fault NotARelabelling at)
+    ask (nat_lt at (length b) && slice_index b at == relabelling_tag) (fault NotARelabelling at)
     (ask (nat_lt (at + 1) (length b)) (fault TableTooShort (length b))
-    (ask (counted (relabelling_labels_in b at)) (fault LabelCount (at + 1))
+    (ask (is_count (relabelling_labels_in b at)) (fault LabelCount (at + 1))
     None))
 
 -- What is wrong with the bytes of a relabelling to n inner labels.

@@ -24,7 +24,7 @@ Spelled m w = Labels m.labels w
 
 -- The laws of a measure, on the values that it admits.
 pub record Lawful {V : Type 0} (m : Meaning V) (admits : V → Type 0) : Type 0 where
-  pub counted : (0 < m.labels) × (m.labels ≤ 64)
+  pub label_range : (0 < m.labels) × (m.labels ≤ 64)
   pub start_admitted : admits m.start
   pub step_admitted : (a : V) (l : Letter) → admits a → admits (m.step a l)
   pub join_admitted : (a b : V) → admits a → admits b → admits (m.join a b)

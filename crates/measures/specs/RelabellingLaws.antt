@@ -14,8 +14,8 @@ module _ (entries : List ℕ) (n : ℕ) (some : 0 < n) where
 module _ {V : Type 0} (entries : List ℕ) (count : ℕ) (m : Meaning V) where
   -- the laws, from those of the inner measure alone
   pub relabelled_lawful : (0 < count) × (count ≤ 64) → {admits : V → Type 0} → Lawful m admits → Lawful (relabelled entries count m) admits
-  relabelled_lawful counted {admits} laws = record {
-    counted = counted;
+  relabelled_lawful in_range {admits} laws = record {
+    label_range = in_range;
     start_admitted = laws.start_admitted;
     step_admitted = λ a l ha. cond_both (nat_lt l count) (m.step a (translated_label entries m.labels l)) a admits (λ _. laws.step_admitted a (translated_label entries m.labels l) ha) (λ _. ha);
     join_admitted = laws.join_admitted;
@@ -23,6 +23,6 @@ module _ {V : Type 0} (entries : List ℕ) (count : ℕ) (m : Meaning V) where
     commutes = laws.commutes;
     associates = laws.associates;
     distributes = λ a b l ha hb h.
-        let below = inner_label_below entries m.labels laws.counted.0 l in
+        let below = inner_label_below entries m.labels laws.label_range.0 l in
         rw (lt-ltb l count h) (laws.distributes a b (translated_label entries m.labels l) ha hb below);
   }

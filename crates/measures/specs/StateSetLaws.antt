@@ -10,13 +10,13 @@ use Rattle.measures.specs.Measures.{Lawful}
 use Rattle.measures.specs.Automata.{next, state_sets}
 use Rattle.measures.specs.ImageLaws.{image_or, image_below, image_pos}
 
-module _ (states labels start : ℕ) (table : List ℕ) (counted : (0 < labels) × (labels ≤ 64)) (begins : start < states) (complete : (k : ℕ) → k < states * labels → slice_index table k < states) where
+module _ (states labels start : ℕ) (table : List ℕ) (in_range : (0 < labels) × (labels ≤ 64)) (begins : start < states) (complete : (k : ℕ) → k < states * labels → slice_index table k < states) where
   pub next_below : (l q : ℕ) → l < labels → q < states → next labels table l q < states
   next_below l q hl hq = complete (q * labels + l) (omega (arith, mul-add-lt q labels l states hq hl))
 
   pub state_sets_lawful : Lawful (state_sets states labels start table) (λ set. (0 < set) × (set < 2 ^ states))
   state_sets_lawful = record {
-    counted = counted;
+    label_range = in_range;
     start_admitted = (pow_pos start, pow-lt begins);
     step_admitted = λ a l ha. cond_both (nat_lt l labels) _ a (λ set. (0 < set) × (set < 2 ^ states))
         (λ t. (image_pos (next labels table l) states a ha.0 ha.1, image_below (next labels table l) states a states (λ q h. next_below l q (ltb-true l labels t) h)))

@@ -1,24 +1,28 @@
-// The flow count: how many flows end at a mark.
-ghost use Rattle.std.specs.Prelude.{◌≡◌, ◌^◌, ◌<◌, IfOk, Some, None, MatchResult};
-ghost use Rattle.measures.specs.Counts.{flow_count, flow_count_lawful, MarksCounted};
+//! The flow count: how many flows end at a mark.
+ghost use Rattle.std.specs.Prelude.{◌≡◌, IfOk, Some, None, MatchResult};
+ghost use Rattle.measures.specs.Counts.{flow_count, MarksCounted};
 ghost use Rattle.measures.specs.Refusals.{flow_count_refusal};
 
 use super::Measure;
 use super::refusals::Refusal;
 use super::sizes::Count;
 
-// A flow count over some labels; its value is capped at 4,294,967,295.
+/// A flow count over some labels: the number of flows, up to 4,294,967,295.
 #[derive(Clone, Copy)]
 pub struct FlowCount {
     labels: Count,
 }
 
 impl FlowCount {
-    // Refuses a label count outside 1 to 64. Whatever calls a board was handed, the value answered at a mark is the number of the longest
-    // flows that end there (`runs`).
+    /// A flow count over that many labels. Refuses a label count outside 1 to 64 (16). Whatever calls a board was handed, the value answered at a
+    /// mark is the number of the longest flows that end there (`runs`).
     pub fn new(labels: u8) -> Result<FlowCount, Refusal>
-        ensures answer { MatchResult result (λ m. (flow_count_refusal labels ≡ None) × (m.labels.number ≡ labels)) (λ e. flow_count_refusal labels ≡ Some e) }
-        ensures runs { IfOk result (λ m. MarksCounted (flow_count m.labels.number)) }
+        ensures answer {
+            MatchResult result
+                (λ m. (flow_count_refusal labels ≡ None) × (⟦<FlowCount as Measure>⟧.meaning m ≡ flow_count labels))
+                (λ e. flow_count_refusal labels ≡ Some e)
+        }
+        ensures runs { IfOk result (λ m. MarksCounted (⟦<FlowCount as Measure>⟧.meaning m)) }
     {
         let labels = Count::new(labels).ok_or(Refusal::LabelCount)?;
         Ok(FlowCount { labels })
@@ -28,11 +32,13 @@ impl FlowCount {
 impl Measure for FlowCount {
     type Value = u32;
 
-    ghost meaning = { λ m. flow_count m.labels.number };
+    ghost use Rattle.measures.specs.Counts.{IsCount, count_meaning, count_lawful};
 
-    ghost admits = { λ _ v. v < 2 ^ 32 };
+    ghost meaning = { count_meaning };
 
-    ghost lawful = { λ m. flow_count_lawful m.labels.number m.labels.counted };
+    ghost admits = { λ _ v. IsCount v };
+
+    ghost lawful = { count_lawful };
 
     fn labels(&self) -> u8 {
         self.labels.number

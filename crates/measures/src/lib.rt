@@ -28,7 +28,7 @@ pub use patterns::Pattern;
 pub use refusals::{Fault, Refusal};
 pub use relabellings::Relabelling;
 pub use replays::replay;
-pub use spans::{Ends, Span};
+pub use spans::{Lengths, Span};
 
 // A measure: a number of labels, a start value, a step from a value by a label and a join of two values,
 // lawful on the values that it admits. A step by a label that it does not have leaves the value.

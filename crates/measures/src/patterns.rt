@@ -1,8 +1,6 @@
-// The pattern: an automaton that accepts the good words, carried as the set of states that flows reach.
+//! The pattern: an automaton that accepts the good words, carried as the set of states that flows reach.
 ghost use Rattle.std.specs.Prelude.{◌≡◌, ℕ, ◌*◌, ◌^◌, ◌<◌, ◌≤◌, slice_index};
-ghost use Rattle.bitset.specs.Sets.{Member, meets, within};
-ghost use Rattle.measures.specs.Automata.{state_sets, next, leads};
-ghost use Rattle.measures.specs.StateSetLaws.{state_sets_lawful};
+ghost use Rattle.measures.specs.Limits.{most_entries};
 
 use super::Measure;
 use super::judges::Judge;
@@ -23,20 +21,25 @@ struct Head {
     ghost final_states: { finals < 2 ^ states.number },
 }
 
-// A pattern, always complete: the table has a row for each state, with a next state for each label; what lies past it is 0.
-// Its memory is fixed, with room for 64 rows of 64, since nothing here allocates and a pattern owns its table.
+/// The most entries of a table: 64 labels for each of 64 states.
+const MOST_ENTRIES: usize = 4096;
+
+/// A pattern, always complete: its table has a row for each state, with a next state for each label; what lies past it is 0. Its memory is fixed,
+/// since nothing here allocates and a pattern owns its table.
 #[derive(Clone, Copy)]
 pub struct Pattern {
     head: Head,
-    table: [u8; 4096],
-    ghost complete: { (k : ℕ) → k < head.states.number * head.labels.number → slice_index table k < head.states.number },
+    table: [u8; MOST_ENTRIES],
+    ghost complete: {
+        (k : ℕ) → k < head.states.number * head.labels.number → slice_index table k < head.states.number
+    },
 }
 
 impl Head {
     // The number of entries of the table.
     fn entries(&self) -> usize
         ensures value { result ≡ self.now.states.number * self.now.labels.number }
-        ensures few { result ≤ 4096 }
+        ensures few { result ≤ most_entries }
     {
         self.states.number as usize * self.labels.number as usize
     }
@@ -45,11 +48,13 @@ impl Head {
 impl Measure for Pattern {
     type Value = u64;
 
-    ghost meaning = { λ m. state_sets m.head.states.number m.head.labels.number m.head.start m.table };
+    ghost use Rattle.measures.specs.Patterns.{IsStateSet, pattern_lawful, pattern_meaning};
 
-    ghost admits = { λ m set. (0 < set) × (set < 2 ^ m.head.states.number) };
+    ghost meaning = { pattern_meaning };
 
-    ghost lawful = { λ m. state_sets_lawful m.head.states.number m.head.labels.number m.head.start m.table m.head.labels.counted m.head.start_state m.complete };
+    ghost admits = { IsStateSet };
+
+    ghost lawful = { pattern_lawful };
 
     fn labels(&self) -> u8 {
         self.head.labels.number
@@ -73,11 +78,13 @@ impl Measure for Pattern {
 }
 
 impl Judge for Pattern {
-    ghost good = { λ m w. Member (leads (next m.head.labels.number m.table) m.head.start w) m.head.finals };
+    ghost use Rattle.measures.specs.Patterns.{all_final, pattern_good, some_final};
 
-    ghost some_of = { λ m set. meets set m.head.finals };
+    ghost good = { pattern_good };
 
-    ghost all_of = { λ m set. within set m.head.finals };
+    ghost some_of = { some_final };
+
+    ghost all_of = { all_final };
 
     fn some(&self, v: u64) -> bool {
         intersects(v, self.head.finals)

@@ -91,7 +91,7 @@ impl<M: Measure> Measure for Relabelling<M> {
 
     ghost admits = { λ r v. M.Measure.admits r.inner v };
 
-    ghost lawful = { λ m. relabelled_lawful m.table.entries m.table.count.number (M.Measure.meaning m.inner) m.table.count.counted (M.Measure.lawful m.inner) };
+    ghost lawful = { λ m. relabelled_lawful m.table.entries m.table.count.number (M.Measure.meaning m.inner) m.table.count.in_range (M.Measure.lawful m.inner) };
 
     fn labels(&self) -> u8 {
         self.table.count.number

@@ -1,4 +1,4 @@
-// Sets of states under one label.
+//! Sets of states under one label.
 ghost use Rattle.std.specs.Prelude.{◌≡◌, ◌<◌};
 ghost use Rattle.measures.specs.Automata.{next, image, Image};
 
@@ -19,8 +19,12 @@ impl Pattern {
     // The states to which the table takes the members of the set that are states, under the label l.
     pub(super) fn image(&self, set: u64, l: u8) -> u64
         requires { l < self.now.head.labels.number }
-        ensures value { result ≡ image (next self.now.head.labels.number self.now.table l) self.now.head.states.number set }
-        ensures members { Image (next self.now.head.labels.number self.now.table l) self.now.head.states.number set result }
+        ensures value {
+            result ≡ image (next self.now.head.labels.number self.now.table l) self.now.head.states.number set
+        }
+        ensures members {
+            Image (next self.now.head.labels.number self.now.table l) self.now.head.states.number set result
+        }
     {
         let mut out = 0;
         let mut rest = below(set, self.head.states.number);

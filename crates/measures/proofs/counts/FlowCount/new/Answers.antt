@@ -3,4 +3,4 @@ use Rattle.measures.proofs.FlowSizes.{marks_counted}
 use Rattle.measures.proofs.counts.FlowCount.new.Goals as goal
 
 pub returns-clause-runs : goal.returns-clause-runs
-returns-clause-runs c = let counted = c.in_ok-labels.labels.counted in marks_counted _ (omega arith)
+returns-clause-runs c = let in_range = c.in_ok-labels.labels.in_range in marks_counted _ (omega arith)

@@ -18,9 +18,9 @@ read_is c =
 pub returns-clause-recognizes : goal.returns-clause-recognizes
 returns-clause-recognizes c =
     let h = c.in_ok-head.head in
-    recognizes c.args.input.now h.states.number h.labels.number h.start h.finals c.with_zeros.result (read_is c).0 h.labels.counted h.start_state (read_is c).1
+    recognizes c.args.input.now h.states.number h.labels.number h.start h.finals c.with_zeros.result (read_is c).0 h.labels.in_range h.start_state (read_is c).1
 
 pub returns-clause-runs : goal.returns-clause-runs
 returns-clause-runs c =
     let h = c.in_ok-head.head in
-    marks_reach c.args.input.now h.states.number h.labels.number h.start h.finals c.with_zeros.result (read_is c).0 h.labels.counted h.start_state (read_is c).1
+    marks_reach c.args.input.now h.states.number h.labels.number h.start h.finals c.with_zeros.result (read_is c).0 h.labels.in_range h.start_state (read_is c).1

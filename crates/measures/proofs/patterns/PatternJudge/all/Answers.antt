@@ -7,4 +7,4 @@ pub returns-clause-judges : goal.returns-clause-judges
 returns-clause-judges c =
     let m = c.args.self.now in
     let h = m.head in
-    shows_accepted h.states.number h.labels.number h.start m.table h.labels.counted h.start_state m.complete h.finals ◌&&◌ (λ (set : ℕ). within set h.finals) (within_or h.finals) (within_one h.finals)
+    shows_accepted h.states.number h.labels.number h.start m.table h.labels.in_range h.start_state m.complete h.finals ◌&&◌ (λ (set : ℕ). within set h.finals) (within_or h.finals) (within_one h.finals)
