@@ -239,7 +239,7 @@ impl<P: Payload> Board<P> {
                 (memory clocks.new flags.new values.new posts.new) (result_as Sent result)
         }
     {
-        let post = self.ask_message(
+        let sent = self.ask_message(
             clocks,
             flags,
             values,
@@ -252,7 +252,7 @@ impl<P: Payload> Board<P> {
         clocks.copy_row(unit, row);
         flags.copy_row(unit, row);
         values.copy_row(unit, row);
-        posts[message] = post;
+        posts[message] = sent;
         Ok(self.own_clock(clocks, unit))
     }
 
@@ -274,7 +274,7 @@ impl<P: Payload> Board<P> {
                 (memory clocks.new flags.new values.new posts.new) (result_as Received result)
         }
     {
-        let post = self.ask_message(
+        let received = self.ask_message(
             clocks,
             flags,
             values,
@@ -295,7 +295,7 @@ impl<P: Payload> Board<P> {
             values.cells,
             rows,
         );
-        posts[message] = post;
+        posts[message] = received;
         Ok(self.own_clock(clocks, unit))
     }
 

@@ -13,8 +13,8 @@ put_in_front_joined l f g [] = refl
 put_in_front_joined l f g (x ∷ w) = grind arith
 
 words_lawful : (n : ℕ) → (0 < n) × (n ≤ 64) → Lawful (words n) (λ f. Unit {0})
-words_lawful n counted = record {
-  counted = counted;
+words_lawful n in_range = record {
+  label_range = in_range;
   start_admitted = tt;
   step_admitted = λ a l ha. tt;
   join_admitted = λ a b ha hb. tt;
@@ -25,4 +25,4 @@ words_lawful n counted = record {
 }
 
 pub law_of_words : (n : ℕ) → (0 < n) × (n ≤ 64) → LawOfRuns (words n)
-law_of_words n counted = law_of_runs (words n) (λ f. Unit {0}) (words_lawful n counted)
+law_of_words n in_range = law_of_runs (words n) (λ f. Unit {0}) (words_lawful n in_range)

@@ -7,8 +7,9 @@ use Rattle.history.specs.declared.precedence.Precedence.{Precedence}
 use Rattle.history.specs.declared.precedence.Precedence.TheVariants.{Precedes, Concurrent}
 use Rattle.history.specs.declared.refusals.Refusal.{Refusal}
 use Rattle.history.specs.declared.refusals.Refusal.TheVariants.{NoSuchUnit, NoSuchMessage, NeverSent}
-use Rattle.history.specs.Board.{own_clock, mark_answer, Reply, run, outcome}
+use Rattle.history.specs.Board.{Reply, run, outcome}
 use Rattle.history.specs.declared.calls.Answer.{Answer}
+use Rattle.history.specs.declared.calls.Answer.TheVariants.{Sent, Received, Marked}
 use Rattle.history.specs.Events.{at}
 use Rattle.history.specs.declared.calls.Event.TheVariants.{Mark, Receive, Send}
 use Rattle.history.specs.declared.calls.Event.{Event}
@@ -21,7 +22,7 @@ use Rattle.measures.specs.Measures.{Meaning}
 use Rattle.measures.specs.Automata.{state_sets}
 use Rattle.measures.specs.Counts.{flow_count}
 use Rattle.measures.specs.Formats.{states_in, labels_in, start_in, finals_in, table_in}
-use Rattle.measures.specs.Spans.{ends, span}
+use Rattle.measures.specs.Spans.{lengths, span}
 use Rattle.measures.specs.Worths.{measured_payload, measured_size}
 
 -- A run on a board of some units and messages, whose marks have so many labels.
@@ -85,13 +86,15 @@ pub data Finding : Type 0 where
 
 -- the own number and the predecessors that a mark was told
 abbrev pub mark_in : {V : Type 0} → Answer V → Option (ℕ × ℕ)
-mark_in (own_clock c) = None
-mark_in (mark_answer c p v) = Some (c, p)
+mark_in (Sent c) = None
+mark_in (Received c) = None
+mark_in (Marked m) = Some (m.clock, m.predecessors)
 
 -- the value that a mark was told
 abbrev pub value_in : {V : Type 0} → Answer V → Option V
-value_in (own_clock c) = None
-value_in (mark_answer c p v) = Some v
+value_in (Sent c) = None
+value_in (Received c) = None
+value_in (Marked m) = Some m.value
 
 -- how many flows have a word, by what the measure of words tells
 abbrev pub having : Word → (Word → ℕ) → ℕ
@@ -116,7 +119,7 @@ module _ (r : WorkedRun) where
       × (meets set awake ≡ some) × (within set awake ≡ all)
   Found (flows_are u i flows shortest longest) =
       (option_and_then (λ x. value_in x.answer) (count_reply u i) ≡ Some flows)
-      × (option_and_then (λ x. value_in x.answer) (reply_to (span r.labels) r u i) ≡ Some (ends shortest longest))
+      × (option_and_then (λ x. value_in x.answer) (reply_to (span r.labels) r u i) ≡ Some (lengths shortest longest))
   Found (words_are u i ws) =
       (option_and_then (λ x. value_in x.answer) (count_reply u i) ≡ Some (length ws))
       × AllByRecursion (λ w. option_map (having w) (option_and_then (λ x. value_in x.answer) (reply_to (words r.labels) r u i)) ≡ Some 1) ws

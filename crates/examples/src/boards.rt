@@ -1,11 +1,11 @@
 // Boards that follow a recording, with and without measures: what each call answers, what is refused and by which number, and what a
 // refusal leaves as it was.
 use super::reading::PATTERN;
-use causality::{Answer, Bare, Board, Call, Clock, Event, Marked, Payload};
+use causality::{Bare, Board, Payload};
 use grid::Grid;
-use history::{Post, Refusal};
+use history::{Answer, Call, Clock, Event, Marked, Post, Refusal};
 use measures::{
-    Ends, FlowCount, Judge, JudgedMark, Measure, Measured, Pattern, Relabelling, Span, Verdict,
+    FlowCount, Judge, JudgedValue, Lengths, Measure, Measured, Pattern, Relabelling, Span, Verdict,
     mark_judged, replay,
 };
 use std::test::Fail;
@@ -190,7 +190,7 @@ impl Memory {
         board: &Board<Measured<Pattern>>,
         unit: usize,
         label: u8,
-    ) -> Result<JudgedMark<u64>, Refusal> {
+    ) -> Result<Marked<JudgedValue<u64>>, Refusal> {
         let clocks = &mut Grid::new(front(&mut self.clocks, 8), 2);
         let flags = &mut Grid::new(front(&mut self.flags, 8), 2);
         let values = &mut Grid::new(front(&mut self.values, 8), 2);
@@ -247,9 +247,9 @@ fn sizes_that_are_refused(rt: HostRuntime) -> Result<(), Fail> {
         assert_eq!(rt; refused(bare), Some(number));
         assert_eq!(rt; refused(made), Some(number));
     }
-    assert_eq!(rt; refused(Board::sized(Bare, 0, 256)), Some(1));
-    assert_eq!(rt; refused(Board::sized(Bare, 16, 256)), Some(2));
-    assert_eq!(rt; refused(Board::sized(Bare, 16, 255)), None);
+    assert_eq!(rt; refused(Board::of_size(Bare, 0, 256)), Some(1));
+    assert_eq!(rt; refused(Board::of_size(Bare, 16, 256)), Some(2));
+    assert_eq!(rt; refused(Board::of_size(Bare, 16, 255)), None);
     Ok(())
 }
 
@@ -275,7 +275,7 @@ fn memory_that_is_too_short(rt: HostRuntime) -> Result<(), Fail> {
     let pattern = Pattern::read(&PATTERN)?;
     let mut memory = WRITTEN_BEFORE;
     let made = memory.make(pattern)?;
-    let bare = Board::sized(Bare, 2, 2)?;
+    let bare = Board::of_size(Bare, 2, 2)?;
     memory = WRITTEN_BEFORE;
     for lent in SHORT {
         assert_eq!(rt; memory.refusals(&bare, lent), [Some(3); 6]);
@@ -339,7 +339,7 @@ fn questions_of_the_calls(rt: HostRuntime) -> Result<(), Fail> {
 // A unit's own clock goes up to 65,535; a label that the measure lacks is told before a full clock.
 #[test]
 fn the_last_mark_of_a_unit(rt: HostRuntime) -> Result<(), Fail> {
-    let (mut clocks, mut flags, mut values) = ([0], [false], [Ends::default()]);
+    let (mut clocks, mut flags, mut values) = ([0], [false], [Lengths::default()]);
     let clocks = &mut Grid::new(&mut clocks, 1);
     let flags = &mut Grid::new(&mut flags, 1);
     let values = &mut Grid::new(&mut values, 1);
@@ -357,7 +357,7 @@ fn the_last_mark_of_a_unit(rt: HostRuntime) -> Result<(), Fail> {
         let told = made.mark(clocks, flags, values, &[], 0, 0)?;
         assert_eq!(rt; told.clock, clock);
     }
-    let full = Ends {
+    let full = Lengths {
         shortest: 65535,
         longest: 65535,
     };
@@ -369,7 +369,7 @@ fn the_last_mark_of_a_unit(rt: HostRuntime) -> Result<(), Fail> {
         refused(made.mark(clocks, flags, values, &[], 0, 0)),
         Some(10)
     );
-    let bare = Board::sized(Bare, 1, 0)?;
+    let bare = Board::of_size(Bare, 1, 0)?;
     let mut nothing = [()];
     let nothing = &mut Grid::new(&mut nothing, 1);
     assert_eq!(rt;
@@ -418,7 +418,7 @@ fn the_player_waits_first(rt: HostRuntime) -> Result<(), Fail> {
 fn a_message_on_its_way(rt: HostRuntime) -> Result<(), Fail> {
     let mut memory = WRITTEN_BEFORE;
     let board = memory.make(Pattern::read(&PATTERN)?)?;
-    let bare = Board::sized(Bare, 2, 2)?;
+    let bare = Board::of_size(Bare, 2, 2)?;
     let call = Call {
         unit: 1,
         event: Event::Send(0),
@@ -435,7 +435,7 @@ fn a_message_on_its_way(rt: HostRuntime) -> Result<(), Fail> {
     assert_eq!(rt; board.left(clocks, flags, values, posts), Ok(1));
     let mut nothing = [(); 8];
     let nothing = &Grid::new(&mut nothing, 2);
-    assert_eq!(rt; bare.has_memory(clocks, flags, nothing, posts), true);
+    assert_eq!(rt; bare.has_room(clocks, flags, nothing, posts), true);
     assert_eq!(rt;
         bare.state(clocks, flags, nothing, posts, 1),
         Ok(Post::Unsent)
@@ -462,19 +462,19 @@ fn one_flow_of_two_is_good(rt: HostRuntime) -> Result<(), Fail> {
         memory.hand(&board, Call { unit, event })?;
     }
     let sound = memory.judge(&board, 1, 2)?;
+    let verdict = Verdict {
+        some: true,
+        all: false,
+    };
     assert_eq!(rt;
-        sound.mark,
+        sound,
         Marked {
             clock: 3,
             predecessors: 3,
-            value: 0x18,
-        }
-    );
-    assert_eq!(rt;
-        sound.verdict,
-        Verdict {
-            some: true,
-            all: false,
+            value: JudgedValue {
+                value: 0x18,
+                verdict,
+            },
         }
     );
     Ok(())
@@ -501,7 +501,7 @@ fn two_flows(beacon: u8, waiting: u8, sound: u8) -> [Call; 10] {
 // The own clock that a call was told, and with it the predecessors and the value of a mark; or the number of the refusal.
 fn told<V: Copy>(answered: Result<Answer<V>, Refusal>) -> Result<(Clock, Option<(u64, V)>), u8> {
     match answered {
-        Ok(Answer::OwnClock(clock)) => Ok((clock, None)),
+        Ok(Answer::Sent(clock) | Answer::Received(clock)) => Ok((clock, None)),
         Ok(Answer::Marked(mark)) => Ok((mark.clock, Some((mark.predecessors, mark.value)))),
         Err(refusal) => Err(u8::from(refusal)),
     }
@@ -526,7 +526,7 @@ where
     )?;
     let mut nothing = [(); 18];
     let nothing = &Grid::new(&mut nothing, 3);
-    let left = Board::sized(Bare, 3, 3)?.left(clocks, flags, nothing, &posts)?;
+    let left = Board::of_size(Bare, 3, 3)?.left(clocks, flags, nothing, &posts)?;
     Ok((count, left))
 }
 
@@ -586,11 +586,11 @@ fn the_last_mark_under_other_measures(rt: HostRuntime) -> Result<(), Fail> {
     let mut counts = [Err(UNWRITTEN); 10];
     replayed(FlowCount::new(3)?, &mut [9; 18], &calls, &mut counts)?;
     assert_eq!(rt; told(counts[9]), Ok((2, Some((5, 2)))));
-    let both = Ends {
+    let both = Lengths {
         shortest: 2,
         longest: 3,
     };
-    let written = Ends {
+    let written = Lengths {
         shortest: 9,
         longest: 9,
     };
@@ -629,7 +629,7 @@ where
     )?;
     for &label in labels {
         let told = mark_judged(&board, clocks, flags, values, &[], 0, label)?;
-        last = Some(told.verdict);
+        last = Some(told.value.verdict);
     }
     Ok(last)
 }
@@ -650,9 +650,9 @@ fn marks_judged(rt: HostRuntime) -> Result<(), Fail> {
     let span = Span::new(3, 2)?;
     assert_eq!(rt; judged(relabelling, &mut [0], &[0, 2, 1])?, Some(good));
     assert_eq!(rt; judged(relabelling, &mut [0], &[0, 2])?, Some(bad));
-    assert_eq!(rt; judged(span, &mut [Ends::default()], &[1, 0])?, Some(good));
+    assert_eq!(rt; judged(span, &mut [Lengths::default()], &[1, 0])?, Some(good));
     assert_eq!(rt;
-        judged(span, &mut [Ends::default()], &[1, 0, 2])?,
+        judged(span, &mut [Lengths::default()], &[1, 0, 2])?,
         Some(bad)
     );
     Ok(())

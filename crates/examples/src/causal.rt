@@ -1,10 +1,10 @@
 // Messages that move on, stamps that are compared, rows that are copied and merged, and what marks are worth.
 use super::reading::PATTERN;
 use bitset::positions;
-use causality::{Bare, Board, Cell, Clock, Stamp, compare, merge_cell};
+use causality::{Bare, Board, Stamp, compare, merge_cell};
 use grid::Grid;
-use history::{Handling, Post};
-use measures::{Ends, FlowCount, Measured, Pattern, Span, mark_value};
+use history::{Cell, Clock, Handling, Post};
+use measures::{FlowCount, Lengths, Measured, Pattern, Span, mark_value};
 use std::test::Fail;
 
 // The number of the state that a message moves to, or the refusal's.
@@ -96,7 +96,7 @@ fn a_message_overtaken_by_an_indirect_one(rt: HostRuntime) -> Result<(), Fail> {
     let mut posts = [Post::Delivered, Post::OnItsWay, Post::OnItsWay];
     let mut nothing = [(); 18];
     let nothing = &mut Grid::new(&mut nothing, 3);
-    let board = Board::sized(Bare, 3, 3)?;
+    let board = Board::of_size(Bare, 3, 3)?;
     assert_eq!(rt;
         board.receive(&mut clock_rows, &mut flag_rows, nothing, &mut posts, 2, 2),
         Ok(0)
@@ -138,7 +138,7 @@ fn two_messages_from_one_mark(rt: HostRuntime) -> Result<(), Fail> {
     let flag_rows = &mut Grid::new(&mut flags, 2);
     let value_rows = &mut Grid::new(&mut values, 2);
     let mut posts = [Post::OnItsWay];
-    let board = Board::sized(Measured { measure: count }, 2, 1)?;
+    let board = Board::of_size(Measured { measure: count }, 2, 1)?;
     assert_eq!(rt;
         board.receive(clock_rows, flag_rows, value_rows, &mut posts, 0, 0),
         Ok(2)
@@ -154,11 +154,11 @@ fn marks_join_the_flows_before_them(rt: HostRuntime) -> Result<(), Fail> {
     let count = FlowCount::new(1)?;
     let span = Span::new(3, 9)?;
     let pattern = Pattern::read(&PATTERN)?;
-    let short = Ends {
+    let short = Lengths {
         shortest: 1,
         longest: 1,
     };
-    let long = Ends {
+    let long = Lengths {
         shortest: 2,
         longest: 3,
     };
@@ -170,8 +170,8 @@ fn marks_join_the_flows_before_them(rt: HostRuntime) -> Result<(), Fail> {
     assert_eq!(rt; mark_value(&count, 0, &[2, 7, 1], 0), 1);
     assert_eq!(rt; mark_value(&count, 1 << 63 | 1, &[2, 7, 1], 0), 3);
     assert_eq!(rt;
-        mark_value(&span, set, &[short, Ends::default(), long], 2),
-        Ends {
+        mark_value(&span, set, &[short, Lengths::default(), long], 2),
+        Lengths {
             shortest: 2,
             longest: 4,
         }
@@ -194,7 +194,7 @@ fn rows_of_every_kind(rt: HostRuntime) -> Result<(), Fail> {
     let span = Span::new(3, 9)?;
     let (mut clocks, mut flags) = NEWS;
     let mut sets = [9, 9, 0x01, 0x04, 9, 9, 9];
-    let mut ends = [Ends::default(); 7];
+    let mut ends = [Lengths::default(); 7];
     let clock_rows = &mut Grid::new(&mut clocks, 2);
     let flag_rows = &mut Grid::new(&mut flags, 2);
     let set_rows = &mut Grid::new(&mut sets, 2);
@@ -207,7 +207,7 @@ fn rows_of_every_kind(rt: HostRuntime) -> Result<(), Fail> {
     set_rows.fill_row(0, 0x01);
     set_rows.copy_row(1, 2);
     set_rows.copy_row(3, 2);
-    let board = Board::sized(Measured { measure: pattern }, 2, 1)?;
+    let board = Board::of_size(Measured { measure: pattern }, 2, 1)?;
     let mut posts = [Post::OnItsWay];
     assert_eq!(rt;
         board.receive(clock_rows, flag_rows, set_rows, &mut posts, 0, 0),
@@ -218,19 +218,19 @@ fn rows_of_every_kind(rt: HostRuntime) -> Result<(), Fail> {
     let clock_rows = &mut Grid::new(&mut clocks, 2);
     let flag_rows = &mut Grid::new(&mut flags, 2);
     let end_rows = &mut Grid::new(&mut ends, 2);
-    let two = Ends {
+    let two = Lengths {
         shortest: 2,
         longest: 2,
     };
     end_rows.set_cell(2, 1, two);
     end_rows.set_cell(2, 2, two);
-    let board = Board::sized(Measured { measure: span }, 2, 1)?;
+    let board = Board::of_size(Measured { measure: span }, 2, 1)?;
     let mut posts = [Post::OnItsWay];
     assert_eq!(rt;
         board.receive(clock_rows, flag_rows, end_rows, &mut posts, 0, 0),
         Ok(0)
     );
     assert_eq!(rt; ends[1], two);
-    assert_eq!(rt; ends[0], Ends::default());
+    assert_eq!(rt; ends[0], Lengths::default());
     Ok(())
 }

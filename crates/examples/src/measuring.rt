@@ -1,6 +1,6 @@
 // Worked values of the flow count, the span, the pattern and a relabelling, and what their makers refuse.
 use super::reading::PATTERN;
-use measures::{Ends, FlowCount, Judge, Measure, Pattern, Refusal, Relabelling, Span, carry};
+use measures::{FlowCount, Judge, Lengths, Measure, Pattern, Refusal, Relabelling, Span, carry};
 use std::test::Fail;
 
 // The number of the refusal, if there is one.
@@ -37,7 +37,7 @@ fn spans_have_two_ends(rt: HostRuntime) -> Result<(), Fail> {
     let long = carry(&span, &[0, 1, 3, 2]);
     assert_eq!(rt;
         long,
-        Ends {
+        Lengths {
             shortest: 3,
             longest: 3,
         }
@@ -45,14 +45,14 @@ fn spans_have_two_ends(rt: HostRuntime) -> Result<(), Fail> {
     let both = span.join(long, short);
     assert_eq!(rt;
         both,
-        Ends {
+        Lengths {
             shortest: 2,
             longest: 3,
         }
     );
     assert_eq!(rt; span.some(both), true);
     assert_eq!(rt; span.all(both), false);
-    let full = Ends {
+    let full = Lengths {
         shortest: 65535,
         longest: 65535,
     };

@@ -1,16 +1,16 @@
-// Replays the lost wake-up on a board under the wake-up pattern, and prints what each call is answered.
-// Unit 0 hears the beacon, unit 1 begins to wait, and each learns of the other's mark only after its own: the sound that unit 1 starts then
-// is no good end.
+//! Replays the lost wake-up on a board under the wake-up pattern, and prints what each call is answered.
+//! Unit 0 hears the beacon, unit 1 begins to wait, and each learns of the other's mark only after its own: the sound that unit 1 starts then
+//! is no good end.
 #![tactic(auto)]
 
 mod lines;
 
 use anyhow::Result;
-use causality::{Board, Call, Event};
+use causality::Board;
 use grid::Grid;
-use history::{Post, Refusal};
-use lines::{Answered, CallLine, Reply};
-use measures::{Measured, Pattern, replay};
+use history::{Answer, Call, Event, Post, Refusal};
+use lines::{CallLine, Reply};
+use measures::{Measured, Pattern, judged_answer, replay};
 
 // The wake-up pattern. A flow is good if it is made of rounds, one or more: a waiting, then waitings and beacons of which the last is a beacon, then a sound.
 const PATTERN: [u8; 27] = [
@@ -61,11 +61,12 @@ fn print_answers(
     rt: &impl Print,
     pattern: &Pattern,
     calls: &[Call],
-    answers: &[Answered],
+    answers: &[Result<Answer<u64>, Refusal>],
 ) -> Result<()> {
     println!(rt; "unit call number clock preds states some all")?;
     for (&call, &answered) in calls.iter().zip(answers) {
-        let reply = Reply::new(pattern, answered);
+        let answer = answered.map(|answer| judged_answer(pattern, answer));
+        let reply = Reply { answer };
         let line = CallLine { call, reply };
         println!(rt; "{line}")?;
     }
@@ -79,7 +80,7 @@ fn main(rt: HostRuntime) -> Result<()> {
     let mut clocks = [0; CELLS];
     let mut flags = [false; CELLS];
     let mut values = [0; CELLS];
-    let mut posts = [Post::Unsent; MESSAGES];
+    let mut posts = [Post::UNSENT; MESSAGES];
     let mut clocks = Grid::new(&mut clocks, UNITS);
     let mut flags = Grid::new(&mut flags, UNITS);
     let mut values = Grid::new(&mut values, UNITS);
@@ -97,7 +98,7 @@ fn main(rt: HostRuntime) -> Result<()> {
         &mut answers,
     )?;
     print_answers(&rt, &pattern, &calls, &answers[..count])?;
-    let board = Board::sized(Measured { measure: pattern }, UNITS, MESSAGES)?;
+    let board = Board::of_size(Measured { measure: pattern }, UNITS, MESSAGES)?;
     let left = board.left(&clocks, &flags, &values, &posts)?;
     println!(rt; "left {left}")?;
     Ok(())

@@ -7,19 +7,19 @@ use Rattle.causality.proofs.boards.Board.receive.Goals as goal
 pub merge_rows-requires-clause-clocks : goal.merge_rows-requires-clause-clocks
 merge_rows-requires-clause-clocks g c =
     let a = c.args in
-    let (r, m, was) = c.in_ok-post.ensures in
+    let (r, m, was) = c.in_ok-received.ensures in
     rows_within r.clocks (a.self.now.units + a.message) a.unit (omega arith) (omega (arith, r.unit))
 
 pub merge_rows-requires-clause-flags : goal.merge_rows-requires-clause-flags
 merge_rows-requires-clause-flags g c =
     let a = c.args in
-    let (r, m, was) = c.in_ok-post.ensures in
+    let (r, m, was) = c.in_ok-received.ensures in
     rows_within r.flags (a.self.now.units + a.message) a.unit (omega arith) (omega (arith, r.unit))
 
 pub merge_rows-requires-clause-values : goal.merge_rows-requires-clause-values
 merge_rows-requires-clause-values g c =
     let a = c.args in
-    let (r, m, was) = c.in_ok-post.ensures in
+    let (r, m, was) = c.in_ok-received.ensures in
     rows_within r.values (a.self.now.units + a.message) a.unit (omega arith) (omega (arith, r.unit))
 
 pub returns : goal.returns
@@ -29,7 +29,7 @@ returns g c =
     let n = a.self.now.units in
     let k = a.self.now.messages in
     let old = memory a.clocks.now a.flags.now a.values.now a.posts.now in
-    let (r, m, was) = c.in_ok-post.ensures in
+    let (r, m, was) = c.in_ok-received.ensures in
     let cs = a.clocks.now.cells.now in
     let fs = a.flags.now.cells.now in
     let vs = a.values.now.cells.now in

@@ -11,7 +11,7 @@ returns g c =
     let n = a.self.now.units in
     let k = a.self.now.messages in
     let old = memory a.clocks.now a.flags.now a.values.now a.posts.now in
-    let (r, m, was) = c.in_ok-post.ensures in
+    let (r, m, was) = c.in_ok-sent.ensures in
     record {
       follows = sent rules n k a.unit a.message old _ r m _ _ was
           (copied r.clocks 0 _ a.unit (n + a.message) (omega (arith, r.unit)) (omega arith) c.copy_row.ensures.cells)
