@@ -1,4 +1,5 @@
 pub mod Accepting
+mod BackwardFlows
 pub mod BoardLaw
 pub mod Carrying
 mod FlowSizes

@@ -1,4 +1,7 @@
 -- A mark is worth the join over the flows that end at it.
+-- The row just before the mark shows its immediate predecessors with such joins, so the flows that end at these are gathered. If there
+-- are none, the mark is the first and the only flow is the mark alone. If there are some, the flows to the mark are these with the
+-- mark put in front, and since a step goes through joins, the step of their join is the join of their steps.
 use Rattle.std.proofs.Common.{◌≡◌, ℕ, List, [], ◌∷◌, map, Some, None, Option, unwrap_or, sym, refl, ap, ◌∙◌, subst, ap₂, inl, ⊎_elim}
 use Rattle.std.specs.Option.{option_map}
 use Rattle.std.proofs.lemmas.Bool.{ltb-true}
@@ -9,14 +12,13 @@ use Rattle.history.specs.Flows.{letter, letter_at}
 use Rattle.history.specs.HappenedBefore.{Before}
 use Rattle.history.specs.Marks.{IsMark}
 use Rattle.history.specs.declared.cells.Cell.{Cell}
-use Rattle.history.proofs.Flows.{Flow, flow_longer}
-use Rattle.history.proofs.Holds.{Holds}
-use Rattle.history.proofs.Lists.{among_map, among_unmap, distinct_map}
-use Rattle.history.proofs.Preceding.{before_past, past_before, top_immediate, immediate_top, stands}
-use Rattle.history.proofs.Sound.{Ranged}
+use Rattle.history.specs.Predecessors.{ShowsPredecessors}
+use Rattle.history.specs.Runs.{Ranged}
+use Rattle.history.proofs.Promises.{among_map, among_unmap, distinct_map}
 use Rattle.measures.specs.Words.{Letter, letter_of}
 use Rattle.measures.specs.Measures.{Meaning, Lawful, Fits}
 use Rattle.measures.specs.Worths.{plus, gathered, worth, measured_size}
+use Rattle.measures.proofs.BackwardFlows.{Flow, flow_longer}
 use Rattle.measures.proofs.Totals.{total, carried_back, total_longer}
 use Rattle.measures.proofs.Gathering.{Tally, Gathered, gathered_all}
 
@@ -32,9 +34,9 @@ pub mark_fits : {V : Type 0} (m : Meaning V) (n k limit : ℕ) (ev : Events) →
 mark_fits m n k limit ev rg u i (l, e) = subst (Fits m) (sym (ap (letter u) e)) (ltb-true (letter_of u l) m.labels (rg.label u i l e))
 
 module _ {V : Type 0} (ev : Events) (m : Meaning V) (admits : V → Type 0) (laws : Lawful m admits) (n k limit : ℕ) (rg : Ranged ev (measured_size m n k limit))
-    (u i l : ℕ) (r : ℕ → Cell V) (e : ev u i ≡ Some (Mark l)) (h : Holds ev m.start (Tally m ev) u i r) where
+    (u i l : ℕ) (r : ℕ → Cell V) (e : ev u i ≡ Some (Mark l)) (shown : ShowsPredecessors ev (Tally m ev) u i r) where
   the : Gathered ev m u i r n
-  the = gathered_all ev m admits laws u i r h.cells n
+  the = gathered_all ev m admits laws u i r shown n
 
   -- no mark comes before it
   worth_first : (G : Gathered ev m u i r n) → G.flows ≡ [] → Tally m ev u i (worth m n r u l)
@@ -50,14 +52,14 @@ module _ {V : Type 0} (ev : Events) (m : Meaning V) (admits : V → Type 0) (law
     where
       first : (v p : ℕ) → IsMark ev v p → Before ev v p u i → ⊥
       first v p a b =
-          let (w, q, t, y) = h.cover v p a (before_past ev v p u i (l, e) b) in
+          let (w, q, t) = shown.reached v p a b in
           let (f, j) = G.some w q (rg.unit w q t.0.0 t.0.1) t in
           subst (Among f) z j
 
       only : (f : List Place) → Flow ev u i f → Among f (((u, i) ∷ []) ∷ [])
       only [] f = absurd f
       only (x ∷ []) f = inl (ap (λ (y : Place). y ∷ []) f.0)
-      only (x ∷ (y ∷ a)) f = absurd (subst (Among (y ∷ a)) z (G.complete y.0 y.1 (y ∷ a) (rg.unit y.0 y.1 f.1.0.0 f.1.0.1) (immediate_top ev y.0 y.1 u i f.1) f.2))
+      only (x ∷ (y ∷ a)) f = absurd (subst (Among (y ∷ a)) z (G.complete y.0 y.1 (y ∷ a) (rg.unit y.0 y.1 f.1.0.0 f.1.0.1) f.1 f.2))
 
   -- flows come before it
   worth_after : (G : Gathered ev m u i r n) (g : List Place) (gs : List (List Place)) → G.flows ≡ g ∷ gs → Tally m ev u i (worth m n r u l)
@@ -67,7 +69,7 @@ module _ {V : Type 0} (ev : Events) (m : Meaning V) (admits : V → Type 0) (law
       sound = λ a j.
           (let (f, b, x) = among_unmap (λ f. (u, i) ∷ f) a G.flows j in
           let (v, p, y, t, w) = G.sound f b in
-          subst (Flow ev u i) (sym x) (flow_longer ev u i v p f (top_immediate ev v p u i (l, e) t) w));
+          subst (Flow ev u i) (sym x) (flow_longer ev u i v p f t w));
       complete = all;
       once = distinct_map (λ f. (u, i) ∷ f) (λ a b x. cc) G.flows G.once;
     },
@@ -82,11 +84,11 @@ module _ {V : Type 0} (ev : Events) (m : Meaning V) (admits : V → Type 0) (law
       all [] f = absurd f
       all (x ∷ []) f =
           let (v, p, y, t, w) = G.sound g one in
-          absurd (f.1.1 v p t.0 (past_before ev v p u i (stands ev v p t.0) (stands ev u i (l, e)) t.1))
+          absurd (f.1.1 v p t.0 t.2)
       all (x ∷ (y ∷ a)) f =
           subst (λ (c : Place). Among (c ∷ (y ∷ a)) (map (λ f. (u, i) ∷ f) G.flows)) (sym f.0)
           (among_map (λ f. (u, i) ∷ f) (y ∷ a) G.flows
-          (G.complete y.0 y.1 (y ∷ a) (rg.unit y.0 y.1 f.1.0.0 f.1.0.1) (immediate_top ev y.0 y.1 u i f.1) f.2))
+          (G.complete y.0 y.1 (y ∷ a) (rg.unit y.0 y.1 f.1.0.0 f.1.0.1) f.1 f.2))
 
   pub worth_mark : Tally m ev u i (worth m n r u l)
   worth_mark = go the.flows refl

@@ -1,4 +1,7 @@
 -- Longest flows with the last mark in front.
+-- A flow grows by a mark at its end, so the recursion of what a mark is worth goes along flows that are turned round: a flow to a
+-- mark is the mark alone, or the mark in front of a flow to an immediate predecessor. Turning a list round takes these to the
+-- longest flows and back, one by one, so lists of exactly the ones become lists of exactly the others.
 use Rattle.std.proofs.Common.{◌≡◌, ℕ, List, [], ◌∷◌, ◌++◌, map, reverse, sym, refl, ap, ◌∙◌, subst, arith}
 use mathlib.Core.List.{reverse_aux, reverse-cons}
 use Rattle.std.proofs.lemmas.List.{reverse-reverse}
@@ -6,7 +9,7 @@ use Rattle.history.specs.Events.{Events, Place}
 use Rattle.history.specs.HappenedBefore.{Immediate, First}
 use Rattle.history.specs.Counting.{Among, Exactly}
 use Rattle.history.specs.Flows.{Opens, Linked, Ends, Longest}
-use Rattle.history.proofs.Lists.{among_map, among_unmap, distinct_map}
+use Rattle.history.proofs.Promises.{among_map, among_unmap, distinct_map}
 
 -- a longest flow ending at the mark (u, i), with its last mark in front
 abbrev pub Flow : Events → ℕ → ℕ → List Place → Type 0
