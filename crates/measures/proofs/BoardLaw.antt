@@ -29,7 +29,7 @@ use Rattle.history.specs.Laws.{SameHistory, OrderFree, MessageAnswered, answers_
 use Rattle.history.proofs.Promises.{accepts_runs, messages_answered, outcomes_told, order_free, marks_ranged, last_stamp}
 use Rattle.history.specs.Limits.{most_marks}
 use Rattle.causality.specs.Boards.{Memory, Holds, Shows, Follows, Makes, state_answer, left_answer, Obeys, has_room, setup}
-use Rattle.causality.proofs.Leaving.{each_shows, count_below_same}
+use Rattle.causality.proofs.Promises.{each_shows, count_below_same}
 use Rattle.measures.specs.Words.{Word}
 use Rattle.measures.specs.Measures.{Meaning, Lawful}
 use Rattle.measures.specs.Worths.{measured_payload, measured_size, measured_rules}
