@@ -2,7 +2,7 @@
 -- are gone through one by one, and lists that hold exactly what has a property.
 use Rattle.std.proofs.Common.{◌≡◌, ℕ, suc, ◌<◌, ◌⊎◌, ◌↔◌, true, List, [], ◌∷◌, ◌++◌, map, length, Some, None, sym, refl, ◌∙◌, ap, subst}
 use Rattle.history.specs.Board.{History, refusal, after, run, accepted}
-use Rattle.history.specs.Counting.{Among, Distinct, Exactly, HowMany}
+use Rattle.history.specs.Counting.{Exactly, HowMany}
 use Rattle.history.specs.Events.{Events, at, Sent, Received}
 use Rattle.history.specs.Laws.{happened, Answered, AcceptsRuns, MessagesAnswered, OutcomesTold, OrderFree, StampsDecide}
 use Rattle.history.specs.Marks.{IsMark}
@@ -119,44 +119,34 @@ travels_stated ev m p = Posts.travels_stated ev m p
 
 -- ---- Lists that hold exactly what has a property
 
--- What is among the first of two lists is among both.
-pub among_left : {A : Type 0} (a : A) (s t : List A) → Among a s → Among a (s ++ t)
-among_left a s t = Lists.among_left a s t
+-- A list of nothing holds exactly what has a property that nothing has.
+pub exactly_none : {A : Type 0} {P : A → Type 0} → ((a : A) → P a → ⊥) → Exactly P []
+exactly_none none = Lists.exactly_none none
 
--- So is what is among the second.
-pub among_right : {A : Type 0} (a : A) (s t : List A) → Among a t → Among a (s ++ t)
-among_right a s t = Lists.among_right a s t
+-- A list of one thing holds exactly what is this thing.
+pub exactly_one : {A : Type 0} (a : A) → Exactly (λ b. b ≡ a) (a ∷ [])
+exactly_one a = Lists.exactly_one a
 
--- And what is among both is among one of them.
-pub among_cases : {A : Type 0} (a : A) (s t : List A) → Among a (s ++ t) → Among a s ⊎ Among a t
-among_cases a s t = Lists.among_cases a s t
+-- Two lists one after the other hold exactly what has one or the other of their properties, if nothing has both.
+pub exactly_append : {A : Type 0} {P Q : A → Type 0} → ((a : A) → P a → Q a → ⊥) → (s t : List A) → Exactly P s → Exactly Q t
+    → Exactly (λ a. P a ⊎ Q a) (s ++ t)
+exactly_append apart s t = Lists.exactly_append apart s t
 
--- Two lists that have nothing in common, and nothing twice, have nothing twice together.
-pub distinct_append : {A : Type 0} (s t : List A) → Distinct s → Distinct t → ((a : A) → Among a s → Among a t → ⊥) → Distinct (s ++ t)
-distinct_append s t = Lists.distinct_append s t
+-- What f makes of a list holds exactly what f makes of a thing with the list's property, if f makes of two things never the same.
+pub exactly_map : {A B : Type 0} (f : A → B) → ((a b : A) → f a ≡ f b → a ≡ b) → {P : A → Type 0} (l : List A) → Exactly P l
+    → Exactly (λ b. (a : A) × P a × (b ≡ f a)) (map f l)
+exactly_map f apart l = Lists.exactly_map f apart l
 
--- What f makes of a member is among what it makes of the list.
-pub among_map : {A B : Type 0} (f : A → B) (a : A) (l : List A) → Among a l → Among (f a) (map f l)
-among_map f a l = Lists.among_map f a l
+-- A list holds exactly what has one property, if it holds exactly what has another and the same things have both.
+pub exactly_like : {A : Type 0} {P Q : A → Type 0} → ((a : A) → P a → Q a) → ((a : A) → Q a → P a) → (l : List A) → Exactly P l → Exactly Q l
+exactly_like to from l = Lists.exactly_like to from l
 
--- And each of these is what f makes of a member.
-pub among_unmap : {A B : Type 0} (f : A → B) (b : B) (l : List A) → Among b (map f l) → (a : A) × Among a l × (b ≡ f a)
-among_unmap f b l = Lists.among_unmap f b l
-
--- If f makes of two things never the same, what it makes of a list that has nothing twice has nothing twice.
-pub distinct_map : {A B : Type 0} (f : A → B) → ((a b : A) → f a ≡ f b → a ≡ b) → (l : List A) → Distinct l → Distinct (map f l)
-distinct_map f apart l = Lists.distinct_map f apart l
-
--- Two lists of exactly the same things are the same up to order: F is true of both if it is true of two empty lists, and stays true
+-- Two lists that hold exactly the same are the same up to order: F is true of both if it is true of two empty lists, and stays true
 -- when one thing more is put in front of the one list and anywhere into the other.
 pub exactly_same : {A : Type 0} (F : List A → List A → Type 0) → F [] [] → ((a : A) (l s t : List A) → F l (s ++ t) → F (a ∷ l) (s ++ (a ∷ t)))
     → {P : A → Type 0} (k l : List A) → Exactly P k → Exactly P l → F k l
 exactly_same F none more k l = Lists.exactly_same F none more k l
 
--- Of how many things P is true is one number.
+-- There is one number of things of which P is true.
 pub how_many_one : {A : Type 0} {P : A → Type 0} (m n : ℕ) → HowMany P m → HowMany P n → m ≡ n
 how_many_one m n = Lists.how_many_one m n
-
--- A list of exactly the things of which P is true is one of exactly those of which Q is true, if both are true of the same things.
-pub exactly_like : {A : Type 0} {P Q : A → Type 0} → ((a : A) → P a → Q a) → ((a : A) → Q a → P a) → (l : List A) → Exactly P l → Exactly Q l
-exactly_like to from l = Lists.exactly_like to from l

@@ -26,7 +26,7 @@ use Rattle.history.specs.declared.calls.Call.{Call}
 use Rattle.history.specs.Board.{State, Reply, new_history, mark_answer, outcomes, run}
 use Rattle.history.specs.declared.calls.Answer.{Answer}
 use Rattle.history.specs.Laws.{SameHistory, OrderFree, MessageAnswered, answers_of}
-use Rattle.history.proofs.Promises.{accepts_runs, messages_answered, outcomes_told, order_free, marks_ranged, last_stamp}
+use Rattle.history.proofs.Promises.{accepts_runs, messages_answered, outcomes_told, order_free, marks_ranged, last_stamp, exactly_none}
 use Rattle.history.specs.Limits.{most_marks}
 use Rattle.causality.specs.Boards.{Memory, Holds, Shows, Follows, Makes, state_answer, left_answer, Obeys, has_room, setup}
 use Rattle.causality.proofs.Promises.{each_shows, count_below_same}
@@ -161,7 +161,7 @@ module _ {V : Type 0} (m : Meaning V) (n k : ℕ) where
 
 -- The stamp of a mark has no marks of units that the board does not have.
 no_marks : (ev : Events) (z : Size) → Ranged ev z → (v : ℕ) → z.units ≤ v → (P : ℕ → Type 0) → HowMany (λ j. IsMark ev v j × P j) 0
-no_marks ev z r v h P = ([], record { sound = λ j a. absurd a; complete = λ j a. (let w = r.unit v j a.0.0 a.0.1 in absurd (omega arith)); once = tt }, refl)
+no_marks ev z r v h P = ([], exactly_none (λ j a. (let w = r.unit v j a.0.0 a.0.1 in omega arith)), refl)
 
 -- As long as a mark's unit does nothing more, its row of clocks is the mark's stamp.
 module _ {V : Type 0} (m : Meaning V) (n k : ℕ) (cs : List Call) (xs : List (Result (Answer V) Refusal)) (memory : Memory V) (p : Played m n k cs xs memory)
