@@ -1,4 +1,6 @@
 -- What each accepted call was told.
+-- A reply is made from the unit's rows just before the event and just after it, and these tell the truth: the own clock after it counts
+-- the unit's marks, the flags before a mark show its immediate predecessors, and the clocks after a mark are its stamp.
 use Rattle.std.proofs.Common.{◌≡◌, ℕ, suc, true, ◌↔◌, List, Some, inl, inr, refl, ap, arith}
 use Rattle.std.proofs.lemmas.Bool.{cases_Bool}
 use Rattle.bitset.specs.Sets.{Member, those}
@@ -17,8 +19,7 @@ use Rattle.history.specs.Board.{Reply, reply, run}
 use Rattle.history.specs.declared.calls.Answer.TheVariants.{Sent, Received}
 use Rattle.history.specs.Laws.{happened, Answered, MarksAnswered, MessagesAnswered, MessageAnswered}
 use Rattle.history.proofs.RowOf.{Row}
-use Rattle.history.proofs.Holds.{Once, Holds}
-use Rattle.history.proofs.Marking.{rows_hold}
+use Rattle.history.proofs.Holds.{Holds}
 use Rattle.history.proofs.Preceding.{before_past, top_immediate, immediate_top}
 use Rattle.history.proofs.Truth.{top_one}
 use Rattle.history.proofs.Unique.{after_mark}

@@ -1,6 +1,6 @@
 -- The theorems of this crate that other crates may cite: what every list of calls leads to, what rows show of the marks, how calls
 -- are gone through one by one, and lists that hold exactly what has a property.
-use Rattle.std.proofs.Common.{◌≡◌, ℕ, suc, ◌<◌, ◌⊎◌, ◌↔◌, true, List, [], ◌∷◌, ◌++◌, map, length, Some, None, sym, refl, ◌∙◌, ap, subst}
+use Rattle.std.proofs.Common.{◌≡◌, ℕ, suc, ◌<◌, ◌⊎◌, ◌↔◌, true, List, [], ◌∷◌, ◌++◌, map, length, Some, None, sym, ap, subst}
 use Rattle.history.specs.Board.{History, refusal, after, run, accepted}
 use Rattle.history.specs.Counting.{Exactly, HowMany}
 use Rattle.history.specs.Events.{Events, at, Sent, Received}

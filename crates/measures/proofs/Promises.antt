@@ -1,6 +1,6 @@
 -- The theorems of this crate that other crates may cite: runs under a measure, the judges of patterns and relabellings, and tables
 -- and calls as they are gone through.
-use Rattle.std.specs.Prelude.{◌≡◌, ℕ, ◌+◌, ◌*◌, ◌^◌, ◌<◌, ◌≤◌, Bool, true, ◌&&◌, ◌||◌, ◌↔◌, List, ◌∷◌, length, None, Decides, IsTrue, bit_or, slice_index_or}
+use Rattle.std.specs.Prelude.{◌≡◌, ℕ, ◌+◌, ◌*◌, ◌^◌, ◌<◌, ◌≤◌, Bool, true, ◌&&◌, ◌||◌, ◌↔◌, List, ◌∷◌, length, None, Decides, IsTrue, bit_or}
 use Rattle.std.proofs.Common.{get_or, take}
 use Rattle.bitset.specs.Sets.{has, meets, within}
 use Rattle.causality.specs.Boards.{Memory, SameBeyond, SameLoans, has_room}

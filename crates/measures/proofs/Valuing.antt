@@ -2,7 +2,7 @@
 -- What is right for a mark is the join over the flows to it with the last mark in front. A row that shows such values makes one for the
 -- mark, so by the promise on values each accepted mark was told one; and these flows turned round are the longest flows, whatever
 -- their order in a list.
-use Rattle.std.proofs.Common.{◌≡◌, ℕ, List, [], ◌∷◌, map, reverse, Some, sym, ap, ◌∙◌, subst, ap₂}
+use Rattle.std.proofs.Common.{◌≡◌, ℕ, List, [], ◌∷◌, map, reverse, Some, sym, ap, ◌∙◌, ap₂}
 use Rattle.std.proofs.Math.Path.{fun_ext}
 use Rattle.std.proofs.lemmas.Option.{same_Some}
 use Rattle.std.proofs.lemmas.List.{map-id, reverse-reverse}

@@ -2,7 +2,7 @@
 -- The row just before the mark shows its immediate predecessors with such joins, so the flows that end at these are gathered. If there
 -- are none, the mark is the first and the only flow is the mark alone. If there are some, the flows to the mark are these with the
 -- mark put in front, and since a step goes through joins, the step of their join is the join of their steps.
-use Rattle.std.proofs.Common.{◌≡◌, ℕ, List, [], ◌∷◌, map, Some, None, Option, unwrap_or, sym, refl, ap, ◌∙◌, subst, ap₂, inl, ⊎_elim}
+use Rattle.std.proofs.Common.{◌≡◌, ℕ, List, [], ◌∷◌, map, Some, None, Option, unwrap_or, sym, refl, ap, ◌∙◌, subst, ap₂, inl}
 use Rattle.std.specs.Option.{option_map}
 use Rattle.std.proofs.lemmas.Bool.{ltb-true}
 use Rattle.history.specs.Counting.{Exactly}
@@ -35,7 +35,7 @@ mark_fits m n k limit ev rg u i (l, e) = subst (Fits m) (sym (ap (letter u) e)) 
 
 module _ {V : Type 0} (ev : Events) (m : Meaning V) (admits : V → Type 0) (laws : Lawful m admits) (n k limit : ℕ) (rg : Ranged ev (measured_size m n k limit))
     (u i l : ℕ) (r : ℕ → Cell V) (e : ev u i ≡ Some (Mark l)) (shown : ShowsPredecessors ev (Tally m ev) u i r) where
-  -- a flow of two marks or more leads to its last mark from an immediate predecessor
+  -- what a flow has before its last mark is a flow that leads to this mark
   leads_to : (y : Place) (f : List Place) → Immediate ev y.0 y.1 u i → Flow ev y.0 y.1 (y ∷ f) → LeadsTo ev u i n (y ∷ f)
   leads_to y f t w = (y.0, y.1, rg.unit y.0 y.1 t.0.0 t.0.1, t, w)
 
