@@ -53,10 +53,10 @@ module _ {V : Type 0} (ev : Events) (m : Meaning V) (admits : V → Type 0) (law
     gathered_taken e p t (gs, ends, tot) (fs, all, sum) = (
       fs ++ gs,
       exactly_like
-      (λ f. ⊎_elim (λ x. (x.0, x.1, (let h = x.2 in omega arith), x.3, x.4)) (λ w. (j, p, omega arith, t, w)))
-      (λ f x. either x.0 x.1 f x.2 x.3 x.4)
-      (fs ++ gs)
-      (exactly_append (λ f x w. (let same = flow_end ev x.0 x.1 j p f x.4 w in let h = x.2 in omega arith)) fs gs all ends),
+          (λ f. ⊎_elim (λ x. (x.0, x.1, (let h = x.2 in omega arith), x.3, x.4)) (λ w. (j, p, omega arith, t, w)))
+          (λ f x. either x.0 x.1 f x.2 x.3 x.4)
+          (fs ++ gs)
+          (exactly_append (λ f x w. (let same = flow_end ev x.0 x.1 j p f x.4 w in let h = x.2 in omega arith)) fs gs all ends),
       rw e (ap₂ (plus m) sum (sym tot) ∙ sym (total_append m admits laws ev fs gs)),
     )
       where

@@ -63,10 +63,10 @@ module _ {V : Type 0} (ev : Events) (m : Meaning V) (admits : V → Type 0) (law
   worth_after g gs all sum = (
     map (λ f. (u, i) ∷ f) (g ∷ gs),
     exactly_like
-    (λ a x. (let (f, (v, p, h, t, w), is) = x in subst (Flow ev u i) (sym is) (flow_longer ev u i v p f t w)))
-    led
-    (map (λ f. (u, i) ∷ f) (g ∷ gs))
-    (exactly_map (λ f. (u, i) ∷ f) (λ a b x. cc) (g ∷ gs) all),
+        (λ a x. (let (f, (v, p, h, t, w), is) = x in subst (Flow ev u i) (sym is) (flow_longer ev u i v p f t w)))
+        led
+        (map (λ f. (u, i) ∷ f) (g ∷ gs))
+        (exactly_map (λ f. (u, i) ∷ f) (λ a b x. cc) (g ∷ gs) all),
     total_longer m admits laws ev (u, i) (mark_fits m n k limit ev rg u i (l, e)) (g ∷ gs)
         ∙ stepped m (letter_at ev (u, i)) (letter_of u l) (ap (letter u) e) (gathered m r n) (total m ev (g ∷ gs)) sum _ (plus_some m (carried_back m ev g) (total m ev gs)).1,
   )
