@@ -5,7 +5,7 @@ use Rattle.history.specs.Limits.{most_units}
 use Rattle.history.specs.Precedence.{compare_refusal, compare_answer}
 use Rattle.history.specs.declared.precedence.Precedence.{Precedence}
 use Rattle.history.specs.declared.refusals.Refusal.{Refusal}
-use Rattle.history.proofs.Compare.{stamps_decide, run_unit}
+use Rattle.history.proofs.Promises.{stamps_decide, run_unit}
 use Rattle.causality.specs.Comparing.{OrdersMarks}
 
 module _ (p q : List ℕ) (u v : ℕ) where

@@ -1,12 +1,13 @@
-pub mod Calling
-pub mod Comparing
-pub mod Following
-pub mod Leaving
-pub mod Making
-pub mod Marks
-pub mod Merges
-pub mod Receiving
-pub mod Sending
-pub mod Showing
-pub mod Sweeping
-pub mod Writing
+mod Calling
+mod Comparing
+mod Following
+mod Leaving
+mod Making
+mod Marks
+mod Merges
+pub mod Promises
+mod Receiving
+mod Sending
+mod Showing
+mod Sweeping
+mod Writing

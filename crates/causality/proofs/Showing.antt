@@ -9,7 +9,7 @@ use Rattle.history.specs.Messages.{unsent}
 use Rattle.history.specs.Board.{State}
 use Rattle.history.specs.Rows.{put}
 use Rattle.history.specs.declared.cells.Cell.{Cell}
-use Rattle.history.proofs.Logs.{put_cases}
+use Rattle.history.proofs.Promises.{put_cases}
 use Rattle.causality.specs.Boards.{Holds, SameFrom}
 
 -- what lies beyond the rows stays

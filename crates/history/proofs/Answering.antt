@@ -1,39 +1,46 @@
 -- What each accepted call was told.
-use Rattle.std.proofs.Common.{◌≡◌, ℕ, suc, true, ◌↔◌, List, Some, refl, ap, arith}
+-- A reply is made from the unit's rows just before the event and just after it, and these tell the truth: the own clock after it counts
+-- the unit's marks, the flags before a mark show its immediate predecessors, and the clocks after a mark are its stamp.
+use Rattle.std.proofs.Common.{◌≡◌, ℕ, suc, true, ◌↔◌, List, Some, inl, inr, refl, ap, arith}
+use Rattle.std.proofs.lemmas.Bool.{cases_Bool}
 use Rattle.bitset.specs.Sets.{Member, those}
 use Rattle.bitset.proofs.Members.{those_members}
 use Rattle.history.specs.Events.{Events, at}
 use Rattle.history.specs.declared.calls.Event.TheVariants.{Mark, Receive, Send}
 use Rattle.history.specs.declared.calls.Event.{Event}
 use Rattle.history.specs.Marks.{tick, marks}
+use Rattle.history.specs.Predecessors.{ShowsPredecessors}
 use Rattle.history.specs.HappenedBefore.{Immediate}
 use Rattle.history.specs.Rows.{Payload}
 use Rattle.history.specs.declared.cells.Cell.{Cell}
-use Rattle.history.specs.Runs.{Size}
+use Rattle.history.specs.Runs.{Size, Ranged}
 use Rattle.history.specs.declared.calls.Call.{Call}
 use Rattle.history.specs.Board.{Reply, reply, run}
 use Rattle.history.specs.declared.calls.Answer.TheVariants.{Sent, Received}
 use Rattle.history.specs.Laws.{happened, Answered, MarksAnswered, MessagesAnswered, MessageAnswered}
 use Rattle.history.proofs.RowOf.{Row}
-use Rattle.history.proofs.Holds.{Once}
-use Rattle.history.proofs.Preceding.{top_immediate, immediate_top}
+use Rattle.history.proofs.Holds.{Holds}
+use Rattle.history.proofs.Preceding.{before_past, top_immediate, immediate_top}
+use Rattle.history.proofs.Truth.{top_one}
 use Rattle.history.proofs.Unique.{after_mark}
-use Rattle.history.proofs.Sound.{Ranged}
 use Rattle.history.proofs.Runs.{sound_run}
 use Rattle.history.proofs.Told.{said_run}
 use Rattle.history.proofs.Accepting.{rows_true}
 use Rattle.history.proofs.Stamps.{clocks_stamp}
 
-module _ {V : Type 0} (M : Payload V) (ev : Events) (once : Once ev) (u i l : ℕ) (r : ℕ → Cell V) (e : ev u i ≡ Some (Mark l)) (d : Row M ev u i r) where
-  -- a unit is flagged just before a mark exactly when it has an immediate predecessor of it
-  flagged_immediate : (v : ℕ) → (r v).flag ≡ true → (p : ℕ) × Immediate ev v p u i
-  flagged_immediate v y = let (p, t, w) = ((rows_true M ev once d).cells v).top y in (p, top_immediate ev v p u i (l, e) t)
+-- a row that holds shows the immediate predecessors of the next mark
+pub holds_shows : {V : Type 0} (ev : Events) (start : V) (W : ℕ → ℕ → V → Type 0) (u i l : ℕ) (r : ℕ → Cell V) → ev u i ≡ Some (Mark l) → Holds ev start W u i r → ShowsPredecessors ev W u i r
+holds_shows ev start W u i l r e h = record {
+  flagged = λ v y. (let (p, t, w) = (h.cells v).top y in (p, top_immediate ev v p u i (l, e) t, w));
+  known = λ v p y. elim (cases_Bool (r v).flag) [ inl f ↦ f | inr f ↦ absurd ((h.cells v).low f p (immediate_top ev v p u i y)) ];
+  single = λ v p q a b. top_one ev _ v p q (immediate_top ev v p u i a) (immediate_top ev v q u i b);
+  reached = λ v p m b. (let (w, q, t, y) = h.cover v p m (before_past ev v p u i (l, e) b) in (w, q, top_immediate ev w q u i (l, e) t));
+}
 
-  immediate_flagged : (v p : ℕ) → Immediate ev v p u i → (r v).flag ≡ true
-  immediate_flagged v p y = grind (arith, ((rows_true M ev once d).cells v).low, immediate_top ev v p u i)
-
-  pub predecessors : (z : Size) → Ranged ev z → (v : ℕ) → Member v (those (λ j. (r j).flag) z.units) ↔ ((p : ℕ) × Immediate ev v p u i)
-  predecessors z rg v = grind (arith, flagged_immediate, those_members, immediate_flagged)
+-- a unit is flagged just before a mark exactly when it has an immediate predecessor of it
+pub predecessors : {V : Type 0} (ev : Events) (W : ℕ → ℕ → V → Type 0) (u i : ℕ) (r : ℕ → Cell V) → ShowsPredecessors ev W u i r
+    → (z : Size) → Ranged ev z → (v : ℕ) → Member v (those (λ j. (r j).flag) z.units) ↔ ((p : ℕ) × Immediate ev v p u i)
+predecessors ev W u i r s z rg v = grind (arith, s.flagged v, those_members, s.known v)
 
 module _ {V : Type 0} (M : Payload V) (z : Size) (cs : List Call) (u i l : ℕ) (e : happened M z cs u i ≡ Some (Mark l)) where
   -- the answer, and the row that it was made from
@@ -49,7 +56,7 @@ module _ {V : Type 0} (M : Payload V) (z : Size) (cs : List Call) (u i l : ℕ) 
           stamp = λ v. (t v).clock;
           told = q;
           clock_is = (rows_true M (happened M z cs) once g).mine;
-          predecessors_are = predecessors M (happened M z cs) once u i l r e d z (sound_run M z cs).ranged;
+          predecessors_are = predecessors (happened M z cs) _ u i r (holds_shows (happened M z cs) M.start _ u i l r e (rows_true M (happened M z cs) once d)) z (sound_run M z cs).ranged;
           stamp_is = clocks_stamp M (happened M z cs) once u i l e t g;
         },
         s,

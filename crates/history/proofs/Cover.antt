@@ -1,4 +1,7 @@
 -- Each known mark is a top of what is known, or before one.
+-- For two sets together: a mark of the one is a top of that set, or before one. If the other set does not hold this top, it is a top of
+-- both, since the sets hold what is before their members. If it does, a top of the other set is that mark or comes after it, and then
+-- nothing in either set comes after this second top.
 use Rattle.std.proofs.Common.{ℕ, sym, subst₂, inl, inr, ⊎_elim, arith}
 use Rattle.std.proofs.lemmas.Bool.{cases_lt}
 use Rattle.history.specs.Events.{Events}

@@ -1,25 +1,25 @@
-pub mod Accepting
-pub mod Answering
-pub mod Bare
-pub mod Compare
-pub mod Counts
-pub mod Cover
-pub mod Flows
-pub mod Holds
-pub mod Kept
-pub mod Lists
-pub mod Logs
-pub mod Marking
-pub mod OrderFree
-pub mod Outcomes
-pub mod Past
-pub mod Posts
-pub mod Preceding
-pub mod RowOf
-pub mod Runs
-pub mod Sound
-pub mod Stamps
-pub mod Steps
-pub mod Told
-pub mod Truth
-pub mod Unique
+mod Accepting
+mod Answering
+mod Bare
+mod Compare
+mod Counts
+mod Cover
+mod Holds
+mod Kept
+mod Lists
+mod Logs
+mod Marking
+mod OrderFree
+mod Outcomes
+mod Past
+mod Posts
+mod Preceding
+pub mod Promises
+mod RowOf
+mod Runs
+mod Sound
+mod Stamps
+mod Steps
+mod Told
+mod Truth
+mod Unique

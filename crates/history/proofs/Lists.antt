@@ -61,6 +61,19 @@ module _ {A : Type 0} where
       k l a b
       ∙ f
 
+  pub exactly_none : {P : A → Type 0} → ((a : A) → P a → ⊥) → Exactly P []
+  exactly_none none = record { sound = λ a m. absurd m; complete = none; once = tt }
+
+  pub exactly_one : (a : A) → Exactly (λ b. b ≡ a) (a ∷ [])
+  exactly_one a = record { sound = λ b. ⊎_elim (λ e. e) (λ m. absurd m); complete = λ b e. inl e; once = ((λ m. m), tt) }
+
+  pub exactly_append : {P Q : A → Type 0} → ((a : A) → P a → Q a → ⊥) → (s t : List A) → Exactly P s → Exactly Q t → Exactly (λ a. P a ⊎ Q a) (s ++ t)
+  exactly_append apart s t x y = record {
+    sound = λ a m. ⊎_elim (λ i. inl (x.sound a i)) (λ i. inr (y.sound a i)) (among_cases a s t m);
+    complete = λ a. ⊎_elim (λ p. among_left a s t (x.complete a p)) (λ q. among_right a s t (y.complete a q));
+    once = distinct_append s t x.once y.once (λ a i j. apart a (x.sound a i) (y.sound a j));
+  }
+
   pub exactly_like : {P Q : A → Type 0} → ((a : A) → P a → Q a) → ((a : A) → Q a → P a) → (l : List A) → Exactly P l → Exactly Q l
   exactly_like to from l e = grind arith
 
@@ -77,3 +90,10 @@ module _ {A B : Type 0} (f : A → B) where
   pub distinct_map : ((a b : A) → f a ≡ f b → a ≡ b) → (l : List A) → Distinct l → Distinct (map f l)
   distinct_map inj [] d = tt
   distinct_map inj (x ∷ l) d = (grind (arith, among_unmap (f x) l), distinct_map inj l d.1)
+
+  pub exactly_map : ((a b : A) → f a ≡ f b → a ≡ b) → {P : A → Type 0} (l : List A) → Exactly P l → Exactly (λ b. (a : A) × P a × (b ≡ f a)) (map f l)
+  exactly_map apart l x = record {
+    sound = λ b m. (let (a, i, e) = among_unmap b l m in (a, x.sound a i, e));
+    complete = λ b p. subst (λ c. Among c (map f l)) (sym p.2) (among_map p.0 l (x.complete p.0 p.1));
+    once = distinct_map apart l x.once;
+  }

@@ -6,17 +6,13 @@ use Rattle.history.specs.declared.calls.Event.{Event}
 use Rattle.history.specs.Messages.{Stated}
 use Rattle.history.specs.Rows.{Payload, new_row}
 use Rattle.history.specs.declared.cells.Cell.{Cell}
-use Rattle.history.specs.Runs.{Size, silence, grown}
+use Rattle.history.specs.Runs.{Size, Ranged, silence, grown}
 use Rattle.history.specs.Board.{State, new_state}
 use Rattle.history.proofs.RowOf.{Row, new, sent, received, marked}
 use Rattle.history.proofs.Holds.{Once}
 use Rattle.history.proofs.Logs.{grown_length, grown_keeps, grown_cases}
 
--- Marks are made by units of the board, with labels that fit.
-pub record Ranged (ev : Events) (z : Size) : Type 0 where
-  pub unit : (v p l : ℕ) → ev v p ≡ Some (Mark l) → v < z.units
-  pub label : (v p l : ℕ) → ev v p ≡ Some (Mark l) → z.fits v l ≡ true
-
+-- What a state and logs that belong together keep.
 pub record Sound {V : Type 0} (M : Payload V) (z : Size) (s : State V) (logs : Logs) : Type 0 where
   -- each unit's row is the row after its events
   pub rows_are : (u : ℕ) → Row M (at logs) u (length (logs u)) (s.rows u)

@@ -1,4 +1,7 @@
 -- What the units were told is what their rows say.
+-- Each reply is made from the unit's rows just before its event and just after it, and stands at the event's place. An accepted call adds
+-- one event and one reply at one place; later events leave earlier rows and replies as they are. A unit has one row at each place, so
+-- the logs alone say what the replies are.
 use Rattle.std.proofs.Common.{◌≡◌, ℕ, suc, ◌<◌, List, length, get_or, Some, None, sym, ◌∙◌, subst, ap₂, inl, inr, ⊎_elim, arith}
 use Rattle.std.specs.List.{slice_get}
 use Rattle.std.proofs.lemmas.List.{same_lists}

@@ -1,4 +1,8 @@
 -- When a cell tells the truth about a set of known places, and the merge of two such cells.
+-- A set of known places holds what is before its members. A cell counts the known marks of one unit, and its flag says whether the last
+-- of them is a top: a known mark that is before no other. Two sets are merged cell by cell. The cell with the larger clock knows what
+-- the other does, and what it knows alone is before nothing that the other set holds, so it is right for both sets together; at equal
+-- clocks the last mark is in both sets, and is a top of both together exactly when it is one of each.
 use Rattle.std.proofs.Common.{◌≡◌, ℕ, suc, ◌<◌, true, false, ◌⊎◌, inl, inr, ⊎_elim, arith}
 use Rattle.std.proofs.lemmas.Bool.{cases_order}
 use Rattle.history.specs.Events.{Events}

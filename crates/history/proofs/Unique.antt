@@ -1,4 +1,6 @@
 -- A unit has one row after its first i events.
+-- The event at the last place says how the row came about: from the unit's row before the event and, at a receipt, from the sender's
+-- row at the send, of which there is one, since a message is sent once. By induction these rows are the same, and so is what they give.
 use Rattle.std.proofs.Common.{◌≡◌, ℕ, suc, Some, sym, ap, ◌∙◌, subst, ap₂, subst₂, arith}
 use Rattle.history.specs.Events.{Events}
 use Rattle.history.specs.declared.calls.Event.TheVariants.{Mark, Receive, Send}

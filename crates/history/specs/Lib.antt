@@ -8,6 +8,7 @@ pub mod Limits
 pub mod Marks
 pub mod Messages
 pub mod Precedence
+pub mod Predecessors
 pub mod Refusals
 pub mod Rows
 pub mod Runs

@@ -1,5 +1,5 @@
 -- Calls, the size of a board, and what a real run can do, told by the events alone.
-use Rattle.std.specs.Prelude.{◌≡◌, ℕ, ◌<◌, Bool, true, if◌then◌else◌, List, [], ◌∷◌, ◌++◌, length, ◌==◌}
+use Rattle.std.specs.Prelude.{◌≡◌, ℕ, ◌<◌, Bool, true, if◌then◌else◌, List, [], ◌∷◌, ◌++◌, length, Some, ◌==◌}
 use Rattle.history.specs.declared.calls.Call.{Call}
 use Rattle.history.specs.Events.{Events, Logs, at, Sent, Received}
 use Rattle.history.specs.declared.calls.Event.TheVariants.{Mark, Receive, Send}
@@ -13,6 +13,11 @@ pub record Size : Type 0 where
   pub messages : ℕ
   pub fits : ℕ → ℕ → Bool
   pub limit : ℕ
+
+-- Marks are made by units of the board, with labels that they may mark with.
+pub record Ranged (ev : Events) (z : Size) : Type 0 where
+  pub unit : (v p l : ℕ) → ev v p ≡ Some (Mark l) → v < z.units
+  pub label : (v p l : ℕ) → ev v p ≡ Some (Mark l) → z.fits v l ≡ true
 
 -- a call of unit u
 abbrev pub call : ℕ → Event → Call

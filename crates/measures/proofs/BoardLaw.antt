@@ -1,4 +1,7 @@
 -- The law of boards follows from the law of runs: what a board answered and what its memory shows are a run's.
+-- A board just made has been handed no call, and each call that follows the rules is one more, so whatever list of calls it was handed, its
+-- answers are the outcomes of a run and its memory shows the state of the run. Each clause of the law is then one on runs, read off the
+-- answers and the memory.
 use Rattle.std.proofs.Common.{◌≡◌, ℕ, ◌+◌, ◌*◌, ◌-◌, ◌<◌, ◌≤◌, Bool, true, false, ◌⊎◌, List, [], ◌∷◌, ◌++◌, length, map, take, set, get_or, Some, None, Ok, Err, Result, IsTrue, sym, refl, ap, ap₂, ◌∙◌, subst, inl, inr, ⊎_elim, suc, arith, rules}
 use Rattle.std.specs.List.{slice_get}
 use Rattle.std.specs.Option.{option_map}
@@ -18,25 +21,18 @@ use Rattle.history.specs.declared.calls.Event.{Event}
 use Rattle.history.specs.declared.calls.Event.TheVariants.{Mark}
 use Rattle.history.specs.HappenedBefore.{UpTo}
 use Rattle.history.specs.Stamps.{Stamp}
-use Rattle.history.proofs.RowOf.{Row}
-use Rattle.history.proofs.Runs.{SoundAt, sound_run}
-use Rattle.history.proofs.Sound.{Ranged}
-use Rattle.history.proofs.Stamps.{clocks_stamp}
 use Rattle.history.specs.Marks.{IsMark}
 use Rattle.history.specs.Rows.{Payload}
 use Rattle.history.specs.declared.cells.Cell.{Cell}
-use Rattle.history.specs.Runs.{Size}
+use Rattle.history.specs.Runs.{Size, Ranged}
 use Rattle.history.specs.declared.calls.Call.{Call}
 use Rattle.history.specs.Board.{State, Reply, new_history, mark_answer, outcomes, run}
 use Rattle.history.specs.declared.calls.Answer.{Answer}
 use Rattle.history.specs.Laws.{SameHistory, OrderFree, MessageAnswered, answers_of}
-use Rattle.history.proofs.Accepting.{accepts_runs}
-use Rattle.history.proofs.Answering.{messages_answered}
-use Rattle.history.proofs.OrderFree.{order_free}
-use Rattle.history.proofs.Outcomes.{outcomes_told}
+use Rattle.history.proofs.Promises.{accepts_runs, messages_answered, outcomes_told, order_free, marks_ranged, last_stamp, exactly_none}
 use Rattle.history.specs.Limits.{most_marks}
 use Rattle.causality.specs.Boards.{Memory, Holds, Shows, Follows, Makes, state_answer, left_answer, Obeys, has_room, setup}
-use Rattle.causality.proofs.Leaving.{each_shows, count_below_same}
+use Rattle.causality.proofs.Promises.{each_shows, count_below_same}
 use Rattle.measures.specs.Words.{Word}
 use Rattle.measures.specs.Measures.{Meaning, Lawful}
 use Rattle.measures.specs.Worths.{measured_payload, measured_size, measured_rules}
@@ -168,22 +164,17 @@ module _ {V : Type 0} (m : Meaning V) (n k : ℕ) where
 
 -- The stamp of a mark has no marks of units that the board does not have.
 no_marks : (ev : Events) (z : Size) → Ranged ev z → (v : ℕ) → z.units ≤ v → (P : ℕ → Type 0) → HowMany (λ j. IsMark ev v j × P j) 0
-no_marks ev z r v h P = ([], record { sound = λ j a. absurd a; complete = λ j a. (let w = r.unit v j a.0.0 a.0.1 in absurd (omega arith)); once = tt }, refl)
+no_marks ev z r v h P = ([], exactly_none (λ j a. (let w = r.unit v j a.0.0 a.0.1 in omega arith)), refl)
 
 -- As long as a mark's unit does nothing more, its row of clocks is the mark's stamp.
 module _ {V : Type 0} (m : Meaning V) (n k : ℕ) (cs : List Call) (xs : List (Result (Answer V) Refusal)) (memory : Memory V) (p : Played m n k cs xs memory)
     (u i l : ℕ) (e : accepted_events m n k most_marks cs u i ≡ Some (Mark l)) (last : length ((run (measured_payload m n) (measured_size m n k most_marks) cs).log u) ≡ suc i) where
-  sound : SoundAt (measured_payload m n) (measured_size m n k most_marks) (run (measured_payload m n) (measured_size m n k most_marks) cs)
-  sound = sound_run (measured_payload m n) (measured_size m n k most_marks) cs
-
-  row_stamp : Stamp (accepted_events m n k most_marks cs) u i (λ v. ((run (measured_payload m n) (measured_size m n k most_marks) cs).state.rows u v).clock)
-  row_stamp =
-      clocks_stamp (measured_payload m n) (accepted_events m n k most_marks cs) sound.once u i l e _
-      (subst (λ (j : ℕ). Row (measured_payload m n) (accepted_events m n k most_marks cs) u j ((run (measured_payload m n) (measured_size m n k most_marks) cs).state.rows u)) last (sound.rows_are u))
+  ranged : Ranged (accepted_events m n k most_marks cs) (measured_size m n k most_marks)
+  ranged = marks_ranged (measured_payload m n) (measured_size m n k most_marks) cs
 
   -- what a row that is read from the memory has for unit v
   in_row : (v : ℕ) → v < n → slice_index (row memory.clocks.cells.now n u) v ≡ ((run (measured_payload m n) (measured_size m n k most_marks) cs).state.rows u v).clock
-  in_row v h = read ∙ p.shows.clocks.rows u v (sound.ranged.unit u i l e) h
+  in_row v h = read ∙ p.shows.clocks.rows u v (ranged.unit u i l e) h
     where
       read : get_or (row memory.clocks.cells.now n u) v 0 ≡ get_or memory.clocks.cells.now (u * n + v) 0
       read = search (rules, places)
@@ -193,8 +184,8 @@ module _ {V : Type 0} (m : Meaning V) (n k : ℕ) (cs : List Call) (xs : List (R
 
   board_stamp : Stamp (accepted_events m n k most_marks cs) u i (λ v. slice_index (row memory.clocks.cells.now n u) v)
   board_stamp v = elim (cases_lt v n) [
-    | inl h ↦ rw (in_row v h) (row_stamp v)
-    | inr h ↦ rw (past_row v h) (no_marks (accepted_events m n k most_marks cs) (measured_size m n k most_marks) sound.ranged v h (λ j. UpTo (accepted_events m n k most_marks cs) v j u i))
+    | inl h ↦ rw (in_row v h) (last_stamp (measured_payload m n) (measured_size m n k most_marks) cs u i l e last v)
+    | inr h ↦ rw (past_row v h) (no_marks (accepted_events m n k most_marks cs) (measured_size m n k most_marks) ranged v h (λ j. UpTo (accepted_events m n k most_marks cs) v j u i))
   ]
 
 -- What is true of the value told at each mark of every run is true of the value answered.

@@ -5,7 +5,7 @@ use Rattle.std.proofs.lemmas.Bool.{or_cases, or_left, or_right, and_parts, and_f
 use Rattle.history.specs.Counting.{Among, Exactly}
 use Rattle.history.specs.Events.{Events, Place}
 use Rattle.history.specs.Flows.{Opens, Linked, Longest, letter_at, word}
-use Rattle.history.proofs.Sound.{Ranged}
+use Rattle.history.specs.Runs.{Ranged}
 use Rattle.measures.specs.Words.{Word}
 use Rattle.measures.specs.Measures.{Meaning, Lawful, Fits, Spelled, carried_from, carried, joined}
 use Rattle.measures.specs.Judges.{Judges}

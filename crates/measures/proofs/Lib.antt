@@ -1,19 +1,21 @@
-pub mod Accepting
-pub mod BoardLaw
-pub mod Carrying
+mod Accepting
+mod BackwardFlows
+mod BoardLaw
+mod Carrying
 mod FlowSizes
-pub mod Gathering
+mod Gathering
 mod Images
-pub mod Judging
-pub mod Members
-pub mod Playing
+mod Judging
+mod Members
+mod Playing
+pub mod Promises
 mod Ranges
-pub mod Reaching
-pub mod Reading
-pub mod Recognizing
-pub mod Replaying
-pub mod Totals
-pub mod Translating
-pub mod Valuing
-pub mod Worthing
-pub mod Worths
+mod Reaching
+mod Reading
+mod Recognizing
+mod Replaying
+mod Totals
+mod Translating
+mod Valuing
+mod Worthing
+mod Worths

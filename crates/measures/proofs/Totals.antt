@@ -6,7 +6,7 @@ use Rattle.std.proofs.lemmas.List.{map_push}
 use Rattle.history.specs.Counting.{Exactly}
 use Rattle.history.specs.Events.{Events, Place}
 use Rattle.history.specs.Flows.{letter_at, word}
-use Rattle.history.proofs.Lists.{exactly_same}
+use Rattle.history.proofs.Promises.{exactly_same}
 use Rattle.measures.specs.Words.{Letter}
 use Rattle.measures.specs.Measures.{Meaning, Lawful, Fits, carried, joined}
 use Rattle.measures.specs.Worths.{plus}

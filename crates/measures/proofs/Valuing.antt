@@ -1,5 +1,8 @@
 -- Each accepted mark's value is the join along the longest flows that end there.
-use Rattle.std.proofs.Common.{◌≡◌, ℕ, List, [], ◌∷◌, map, reverse, Some, sym, ap, ◌∙◌, subst, ap₂}
+-- What is right for a mark is the join over the flows to it with the last mark in front. A row that shows such values makes one for the
+-- mark, so by the promise on values each accepted mark was told one; and these flows turned round are the longest flows, whatever
+-- their order in a list.
+use Rattle.std.proofs.Common.{◌≡◌, ℕ, List, [], ◌∷◌, map, reverse, Some, sym, ap, ◌∙◌, ap₂}
 use Rattle.std.proofs.Math.Path.{fun_ext}
 use Rattle.std.proofs.lemmas.Option.{same_Some}
 use Rattle.std.proofs.lemmas.List.{map-id, reverse-reverse}
@@ -8,19 +11,14 @@ use Rattle.history.specs.Counting.{Exactly}
 use Rattle.history.specs.Events.{Events, Place}
 use Rattle.history.specs.declared.calls.Event.TheVariants.{Mark}
 use Rattle.history.specs.Flows.{Longest, word}
-use Rattle.history.specs.declared.cells.Cell.{Cell}
 use Rattle.history.specs.declared.calls.Call.{Call}
-use Rattle.history.proofs.Answering.{answer_made}
-use Rattle.history.proofs.Flows.{flows_longest, longest_flows}
-use Rattle.history.proofs.Holds.{Holds}
-use Rattle.history.proofs.Marking.{rows_hold}
-use Rattle.history.proofs.OrderFree.{order_free}
-use Rattle.history.proofs.RowOf.{Row}
-use Rattle.history.proofs.Runs.{sound_run}
-use Rattle.history.proofs.Sound.{Ranged}
+use Rattle.history.specs.Laws.{Answered}
+use Rattle.history.specs.Runs.{Ranged}
+use Rattle.history.proofs.Promises.{values_right, marks_ranged, order_free}
 use Rattle.measures.specs.Measures.{Meaning, Lawful, carried, joined}
 use Rattle.measures.specs.Worths.{measured_payload, measured_size}
 use Rattle.measures.specs.Laws.{join_over, accepted_events, Valued, LawOfRuns}
+use Rattle.measures.proofs.BackwardFlows.{flows_longest, longest_flows}
 use Rattle.measures.proofs.Totals.{carried_back, carried_back_word, total_joined, exactly_total}
 use Rattle.measures.proofs.Gathering.{Tally}
 use Rattle.measures.proofs.Worths.{worth_mark}
@@ -54,18 +52,20 @@ module _ {V : Type 0} (m : Meaning V) (admits : V → Type 0) (laws : Lawful m a
 
 module _ {V : Type 0} (m : Meaning V) (admits : V → Type 0) (laws : Lawful m admits) (n k limit : ℕ) (cs : List Call) where
   pub ranged : Ranged (accepted_events m n k limit cs) (measured_size m n k limit)
-  ranged = (sound_run (measured_payload m n) (measured_size m n k limit) cs).ranged
+  ranged = marks_ranged (measured_payload m n) (measured_size m n k limit) cs
 
-  rows_worth : {u i : ℕ} {r : ℕ → Cell V} → Row (measured_payload m n) (accepted_events m n k limit cs) u i r → Holds (accepted_events m n k limit cs) m.start (Tally m (accepted_events m n k limit cs)) u i r
-  rows_worth d =
-      rows_hold (accepted_events m n k limit cs) (measured_payload m n) (Tally m (accepted_events m n k limit cs)) (sound_run (measured_payload m n) (measured_size m n k limit) cs).once
-      (worth_mark (accepted_events m n k limit cs) m admits laws n k limit ranged) d
+  -- each accepted mark was told the join over the flows to it
+  tally_told : (u i l : ℕ) → accepted_events m n k limit cs u i ≡ Some (Mark l)
+      → (a : Answered (measured_payload m n) (measured_size m n k limit) cs u i) × Tally m (accepted_events m n k limit cs) u i a.value
+  tally_told =
+      let ev = accepted_events m n k limit cs in
+      values_right (measured_payload m n) (measured_size m n k limit) cs (Tally m ev)
+      (λ u i l r e shown. worth_mark ev m admits laws n k limit ranged u i l r e shown)
 
   pub valued : (u i l : ℕ) → accepted_events m n k limit cs u i ≡ Some (Mark l) → Valued m n k limit cs u i
   valued u i l e =
-      let (a, r, d, x) = answer_made (measured_payload m n) (measured_size m n k limit) cs u i l e in
+      let (a, w) = tally_told u i l e in
       let ev = accepted_events m n k limit cs in
-      let w : Tally m ev u i a.value = subst (Tally m ev u i) (sym x) (worth_mark ev m admits laws n k limit ranged u i l r e (rows_worth d)) in
       let (f, fs, all, is) = tally_flows m admits laws ev u i a.value w in
       record { answered = a; flow = f; flows = fs; all = all; value_is = is; value_any = tally_any m admits laws ev u i a.value w }
 

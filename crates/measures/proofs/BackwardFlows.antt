@@ -1,12 +1,15 @@
 -- Longest flows with the last mark in front.
+-- A flow grows by a mark at its end, so the recursion of what a mark is worth goes along flows that are turned round: a flow to a
+-- mark is the mark alone, or the mark in front of a flow to an immediate predecessor. Turning a list round takes these to the
+-- longest flows and back, one by one, so lists of exactly the ones become lists of exactly the others.
 use Rattle.std.proofs.Common.{◌≡◌, ℕ, List, [], ◌∷◌, ◌++◌, map, reverse, sym, refl, ap, ◌∙◌, subst, arith}
 use mathlib.Core.List.{reverse_aux, reverse-cons}
 use Rattle.std.proofs.lemmas.List.{reverse-reverse}
 use Rattle.history.specs.Events.{Events, Place}
 use Rattle.history.specs.HappenedBefore.{Immediate, First}
-use Rattle.history.specs.Counting.{Among, Exactly}
+use Rattle.history.specs.Counting.{Exactly}
 use Rattle.history.specs.Flows.{Opens, Linked, Ends, Longest}
-use Rattle.history.proofs.Lists.{among_map, among_unmap, distinct_map}
+use Rattle.history.proofs.Promises.{exactly_like, exactly_map}
 
 -- a longest flow ending at the mark (u, i), with its last mark in front
 abbrev pub Flow : Events → ℕ → ℕ → List Place → Type 0
@@ -53,11 +56,12 @@ module _ (ev : Events) where
 
 -- a list of exactly these, each turned round
 reversed : {P Q : List Place → Type 0} → ((f : List Place) → P f → Q (reverse f)) → ((f : List Place) → Q f → P (reverse f)) → (fs : List (List Place)) → Exactly P fs → Exactly Q (map reverse fs)
-reversed {P} {Q} to from fs x = record {
-  sound = λ f m. (let (g, h, e) = among_unmap reverse f fs m in subst Q (sym e) (to g (x.sound g h)));
-  complete = λ f h. subst (λ (y : List Place). Among y (map reverse fs)) (reverse-reverse f) (among_map reverse (reverse f) fs (x.complete (reverse f) (from f h)));
-  once = distinct_map reverse (λ a b e. sym (reverse-reverse a) ∙ ap reverse e ∙ reverse-reverse b) fs x.once;
-}
+reversed {P} {Q} to from fs all =
+    exactly_like
+    (λ f x. subst Q (sym x.2) (to x.0 x.1))
+    (λ f x. (reverse f, from f x, sym (reverse-reverse f)))
+    (map reverse fs)
+    (exactly_map reverse (λ a b e. sym (reverse-reverse a) ∙ ap reverse e ∙ reverse-reverse b) fs all)
 
 pub flows_longest : (ev : Events) (u i : ℕ) (fs : List (List Place)) → Exactly (Flow ev u i) fs → Exactly (Longest ev u i) (map reverse fs)
 flows_longest ev u i = reversed (flow_longest ev u i) (longest_flow ev u i)
