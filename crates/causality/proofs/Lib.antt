@@ -8,5 +8,4 @@ pub mod Merges
 pub mod Receiving
 pub mod Sending
 pub mod Showing
-pub mod Sweeping
 pub mod Writing

@@ -3,8 +3,8 @@ use Rattle.std.proofs.Common.{◌≡◌, ℕ, ◌+◌, ◌*◌, ◌<◌, ◌≤�
 use Rattle.std.proofs.lemmas.Grind.{common_steps}
 use Rattle.std.proofs.lemmas.List.{get_or-set_other}
 use Rattle.std.proofs.lemmas.Grind.{get_or-set_at}
-use Rattle.grid.proofs.Cells.{row_fits}
-use Rattle.grid.proofs.Written.{RowIs, other_row}
+use Rattle.grid.specs.Rows.{RowIs}
+use Rattle.grid.proofs.Promises.{row_fits, other_row}
 use Rattle.history.specs.declared.messages.Post.{Post}
 use Rattle.history.specs.declared.messages.Post.TheVariants.{Unsent}
 use Rattle.history.specs.Board.{State}

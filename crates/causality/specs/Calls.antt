@@ -1,7 +1,6 @@
 -- What the contracts of the calls speak of: the questions of `refusal` in `history/specs/Board`, read off memory, and what is answered, as the
 -- rules speak of it.
-use Rattle.std.specs.Prelude.{◌≡◌, ◌<◌, ◌≤◌, ℕ, ◌+◌, ◌*◌, Bool, true, false, ◌&&◌, List, length, min, Ok, Err, Option, Result, nat_le, slice_index_or}
-use Rattle.bitset.specs.Sets.{those}
+use Rattle.std.specs.Prelude.{◌≡◌, ◌<◌, ◌≤◌, ℕ, ◌+◌, ◌*◌, Bool, true, ◌&&◌, List, length, Ok, Err, Option, Result, nat_le}
 use Rattle.grid.specs.declared.Grid.{Grid}
 use Rattle.grid.specs.Grids.{SameLoan}
 use Rattle.history.specs.declared.messages.Handling.{Handling}
@@ -65,10 +64,6 @@ TurnedAway load n k a c e = Obeys load n k c a a (Err e)
 abbrev pub handle : Handling → ℕ → Event
 handle Sending m = send m
 handle Receiving m = receive m
-
--- the units whose flag in a row is yes, as a number
-abbrev pub flags_in : List Bool → ℕ
-flags_in flags = those (λ j. slice_index_or flags j false) (min (length flags) 64)
 
 -- what a send or a receipt answers
 abbrev pub clock_told : {V : Type 0} → Result ℕ Refusal → Result (Answer V) Refusal

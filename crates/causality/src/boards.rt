@@ -1,7 +1,7 @@
 // A board follows the calls of a run: what each unit knows of the others' marks, and what is carried along their flows.
 // Each call asks its questions first, and the first no refuses it; what it does then cannot fail.
-ghost use Rattle.std.specs.Prelude.{◌≡◌, ℕ, ◌+◌, ◌*◌, ◌<◌, ◌≤◌, ◌++◌, drop, length, replicate, None, true, false, MatchResult, count_by, slice_index, slice_index_or};
-ghost use Rattle.grid.specs.Rows.{row as row_of, with_row};
+ghost use Rattle.std.specs.Prelude.{◌≡◌, ℕ, ◌+◌, ◌*◌, ◌<◌, ◌≤◌, ◌++◌, drop, length, replicate, None, true, MatchResult, count_by, slice_index, slice_index_or, slice_set};
+ghost use Rattle.grid.specs.Rows.{row as row_of};
 ghost use Rattle.history.specs.declared.messages.Post.TheVariants.{Unsent};
 ghost use Rattle.history.specs.Events.{send, receive, mark};
 ghost use Rattle.history.specs.Limits.{most_marks, most_messages, most_units};
@@ -9,14 +9,14 @@ ghost use Rattle.history.specs.Messages.{moved, travels};
 ghost use Rattle.history.specs.Rows.{Cell};
 ghost use Rattle.history.specs.Runs.{Call, call};
 ghost use Rattle.causality.specs.Boards.{EachShows, fits_board, make_refusal, state_answer, left_answer};
-ghost use Rattle.causality.specs.Calls.{Obeys, Begins, lent, has_room, size_refusal, flags_in, Ready, TurnedAway, handle, clock_told, mark_told};
+ghost use Rattle.causality.specs.Calls.{Obeys, Begins, lent, has_room, size_refusal, Ready, TurnedAway, handle, clock_told, mark_told};
 ghost use Rattle.causality.specs.Loads.{Reads};
-ghost use Rattle.bitset.specs.Sets.{those};
 
 use super::merging::merge_rows;
 use super::payloads::Payload;
 use super::{Clock, MAX_MESSAGES, MAX_UNITS};
-use grid::{Grid, RowPair, at_or, fill, reset_row};
+use bitset::take_positions;
+use grid::{Grid, RowPair, at_or, fill, put};
 use history::{Handling, Post, Refusal};
 
 // A board of `units` units and `messages` messages, and what its cells carry. Its rows and the states of its messages lie in memory that the
@@ -285,13 +285,13 @@ impl<P: Payload> Board<P> {
     {
         let own = self.ask_mark(clocks, flags, values, posts, unit, label)?;
         let clock = own + 1;
-        let predecessors = take_flags(flags.cells, self.units, unit);
+        let start = unit * self.units;
+        let end = start + self.units;
+        let predecessors = take_positions(&mut flags.cells[start..end]);
         let value = self.worth_in(values, predecessors, unit, label);
-        reset_row(values.cells, self.units, unit, self.payload.start());
-        let at = unit * self.units + unit;
-        clocks.cells[at] = clock;
-        flags.cells[at] = true;
-        values.cells[at] = value;
+        reset_row(&mut values.cells[start..end], unit, self.payload.start(), value);
+        clocks.cells[start + unit] = clock;
+        flags.cells[start + unit] = true;
         Ok(Marked {
             clock,
             predecessors,
@@ -361,55 +361,12 @@ impl<P: Payload> Board<P> {
     }
 }
 
-// Takes the flags of a row that is there, as a number with a bit for each unit whose flag is yes; all become no.
-fn take_flags(flags: &mut [bool], width: usize, row: usize) -> u64
-    requires row { row * width + width ≤ length flags.old }
-    requires few { width ≤ 64 }
-    ensures units { result ≡ flags_in (row_of flags.old width row) }
-    ensures cells { flags.new ≡ with_row flags.old width row (replicate width false) }
+// Sets each cell of a row, and then the one of a unit.
+fn reset_row<T: Copy>(row: &mut [T], unit: usize, v: T, own: T)
+    ensures { row.new ≡ slice_set (replicate (length row.old) v) unit own }
 {
-    let start = row * width;
-    sweep(&mut flags[start..start + width])
-}
-
-// Takes some flags, from the last to the first, as a number with a bit for each that is yes; all become no. Eight at a time while there are so many.
-fn sweep(flags: &mut [bool]) -> u64
-    requires { length flags.old ≤ 64 }
-    ensures set { result ≡ flags_in flags.old }
-    ensures cells { flags.new ≡ replicate (length flags.old) false }
-{
-    let mut set = 0;
-    let mut q = flags.len();
-    while q >= 8 {
-        q -= 8;
-        set = set << 8 | eight(flags, q);
-        fill(&mut flags[q..q + 8], false);
-    }
-    while q > 0 {
-        q -= 1;
-        set = set << 1 | u64::from(flags[q]);
-        flags[q] = false;
-    }
-    set
-}
-
-// The eight flags from a place on, as a number with a bit for each that is yes: each is a byte of a word, and the product has the bits of all
-// in its highest byte.
-fn eight(flags: &[bool], q: usize) -> u64
-    requires { q + 8 ≤ length flags.now }
-    ensures { result ≡ those (λ i. slice_index_or flags.now (q + i) false) 8 }
-{
-    let bytes = [
-        u8::from(flags[q]),
-        u8::from(flags[q + 1]),
-        u8::from(flags[q + 2]),
-        u8::from(flags[q + 3]),
-        u8::from(flags[q + 4]),
-        u8::from(flags[q + 5]),
-        u8::from(flags[q + 6]),
-        u8::from(flags[q + 7]),
-    ];
-    u64::from_le_bytes(bytes).wrapping_mul(0x0102_0408_1020_4080) >> 56
+    fill(row, v);
+    put(row, unit, own);
 }
 
 // The first messages become as they are before anything is sent.

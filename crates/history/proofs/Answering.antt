@@ -1,7 +1,7 @@
 -- What each accepted call was told.
 use Rattle.std.proofs.Common.{◌≡◌, ℕ, suc, true, ◌⊎◌, ◌↔◌, List, Some, refl, inl, inr, arith}
 use Rattle.bitset.specs.Sets.{Member, those}
-use Rattle.bitset.proofs.Members.{those_members}
+use Rattle.bitset.proofs.Promises.{those_members}
 use Rattle.history.specs.Events.{Event, Events, at, send, receive, mark}
 use Rattle.history.specs.Marks.{tick, marks}
 use Rattle.history.specs.HappenedBefore.{Immediate}

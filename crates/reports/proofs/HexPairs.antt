@@ -4,7 +4,7 @@ use Rattle.std.proofs.Math.Nat.{div-div-eq-div-mul, pow-suc}
 use Rattle.std.proofs.lemmas.Bool.{and_parts, cases_lt}
 use Rattle.std.specs.Int.{w64, byte_at, bytes_low_first, to_le_bytes}
 use Rattle.text.specs.Hex.{digit_in_hex, hex}
-use Rattle.text.proofs.HexText.{byte_is}
+use Rattle.text.proofs.Promises.{byte_is}
 use Rattle.reports.specs.declared.buffers.TheConstants.{HEX_PAIRS}
 
 -- whether the table has the digits of each byte below n

@@ -7,9 +7,10 @@ ghost use Rattle.measures.specs.Formats.{head_fault, pattern_fault, states_in, l
 
 use super::super::refusals::{Fault, Refusal};
 use super::super::sizes::Count;
-use super::super::tables::{Rest, with_zeros};
+use super::super::tables::{table, with_zeros};
 use super::{Head, Pattern};
 use bitset::is_below;
+use text::Cursor;
 
 impl Head {
     // The first twelve bytes of a pattern.
@@ -50,8 +51,8 @@ impl Pattern {
         ensures runs { IfOk result (λ p. MarksReach input.now (state_sets p.head.states.number p.head.labels.number p.head.start p.table) (λ set. meets set p.head.finals) (λ set. within set p.head.finals)) }
     {
         let head = Head::read(input)?;
-        let rest = Rest { input, place: 12 };
-        let table = rest.table(head.entries(), head.states.number)?;
+        let after = Cursor { input, place: 12 };
+        let table = table(after, head.entries(), head.states.number)?;
         Ok(Pattern {
             head,
             table: with_zeros(table),

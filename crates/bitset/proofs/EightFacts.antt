@@ -9,7 +9,7 @@ use borrow.Rule.Slice.PartMut.{put_mid}
 use mir.Val.{bool_byte}
 use lib.Bits.{bit_or}
 use Rattle.bitset.specs.Sets.{those}
-use Rattle.bitset.proofs.Places.{those_same, those_below}
+use Rattle.bitset.proofs.PositionFacts.{those_same, those_below}
 
 -- the number n stands above those below it
 those_last : (f : ℕ → Bool) (n : ℕ) → those f (suc n) ≡ cond (f n) (2 ^ n + those f n) (those f n)

@@ -7,7 +7,7 @@ use Rattle.std.proofs.lemmas.Bool.Decides.{nat_tests}
 use mir.Val.{bool_byte}
 use lib.Bits.{bit_or}
 use Rattle.bitset.specs.Sets.{has, those}
-use Rattle.bitset.proofs.Members.{cases_bit, below_members, those_members}
+use Rattle.bitset.proofs.MemberFacts.{cases_bit, below_members, those_members}
 
 -- sets of numbers below n that are told by tests which agree below n
 pub those_same : (f g : ℕ → Bool) (n : ℕ) → ((j : ℕ) → j < n → f j ≡ g j) → those f n ≡ those g n
