@@ -1,5 +1,5 @@
-//! Sets of the numbers 0 to 63, each one word: number q is in the set exactly when bit q of the word is 1.
-//! The states of patterns and the units of predecessors are such sets. Stands on nothing here.
+// Sets of the numbers 0 to 63, each one word: number q is in the set exactly when bit q of the word is 1.
+// The states of patterns and the units of predecessors are such sets. Stands on nothing here.
 #![tactic(auto)]
 
 ghost use Rattle.std.specs.Prelude.{◌≡◌, ℕ, ◌+◌, ◌^◌, ◌<◌, ◌≤◌, ◌&&◌, ◌||◌, false, if◌then◌else◌, length, replicate, ◌↔◌, IsTrue, MatchOption, bit_or, nat_lt, slice_index_or};
@@ -66,7 +66,8 @@ pub fn is_below(set: u64, n: u8) -> bool
     n >= 64 || set >> n == 0
 }
 
-/// Takes flags as a set: the places below 64 whose flag is yes. All flags become no, those from 64 on too.
+/// Takes flags as a set: the places below 64 whose flag is yes.
+/// All flags become no, those from 64 on too.
 pub fn take_positions(flags: &mut [bool]) -> u64
     ensures positions { result ≡ positions_in flags.old }
     ensures flags { flags.new ≡ replicate (length flags.old) false }
@@ -99,12 +100,12 @@ fn sweep(flags: &mut [bool]) -> u64
     set
 }
 
-// A word with the bits 7, 14, .., 56. The bits 0, 8, .., 56 of another word, times these, fall on 64 different places, so that nothing is carried.
-// Bit 8 * i, times bit 56 - 7 * i, falls on bit 56 + i, and no other product falls on the bits from 56 to 63.
+// A word with the bits 7, 14, .., 56. Times each of these, the bits 0, 8, .., 56 of another word fall on 64 different
+// places, so nothing is carried. Bit 8 * i times bit 56 - 7 * i falls on bit 56 + i, and nothing else falls there.
 const GATHER: u64 = 0x0102_0408_1020_4080;
 
-// The eight flags from place q on as a set of the numbers 0 to 7. They are the bytes of a word, flag i its bit 8 * i; times `GATHER` this is
-// bit 56 + i, so the highest byte of the product holds the eight flags side by side.
+// The eight flags from place q on, as a set of the numbers 0 to 7. As the bytes of a word, flag i is its bit 8 * i.
+// The product with `GATHER` has it as bit 56 + i, so its highest byte has the eight flags side by side.
 fn eight(flags: &[bool], q: usize) -> u64
     requires { q + 8 ≤ length flags.now }
     ensures { result ≡ those (λ i. slice_index_or flags.now (q + i) false) 8 }

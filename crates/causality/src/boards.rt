@@ -289,7 +289,12 @@ impl<P: Payload> Board<P> {
         let end = start + self.units;
         let predecessors = take_positions(&mut flags.cells[start..end]);
         let value = self.worth_in(values, predecessors, unit, label);
-        reset_row(&mut values.cells[start..end], unit, self.payload.start(), value);
+        reset_row(
+            &mut values.cells[start..end],
+            unit,
+            self.payload.start(),
+            value,
+        );
         clocks.cells[start + unit] = clock;
         flags.cells[start + unit] = true;
         Ok(Marked {

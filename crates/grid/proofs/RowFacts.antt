@@ -44,9 +44,6 @@ module _ {X : Type 0} (n t : ℕ) (d : X) (old : List X) (inside : t * n + n ≤
   tabled_row g new e =
       rw e (row_same (written_row (tabled g n) (omega (arith, length-map-range_with_len g 0 n))) g (λ j h. get_or-map-range_with_len g 0 n j j d h (omega arith)))
 
-  pub filled_row : (v : X) (new : List X) → new ≡ with_row old n t (replicate n v) → RowIs n t d (λ j. v) old new
-  filled_row v new e = rw e (row_same (written_row (replicate n v) (omega (arith, length-replicate {A = X}))) (λ j. v) (λ j h. grind (arith, places, common_steps)))
-
   pub copied_row : (u : ℕ) (new : List X) → u * n + n ≤ length old → new ≡ with_row old n t (row old n u) → RowIs n t d (λ j. get_or old (u * n + j) d) old new
   copied_row u new from e =
       rw e (row_same (written_row (row old n u) (simp (length-take, length-drop) (omega arith))) (λ j. get_or old (u * n + j) d) (λ j h. search (rules, places)))

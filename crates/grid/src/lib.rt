@@ -121,10 +121,12 @@ pub fn fill<T: Copy>(part: &mut [T], v: T)
     }
 }
 
-// Copies the cells of the row that is read to the row that is written. Both lie in one memory, so each cell is taken out by value first.
+// Copies the cells of the row that is read to the row that is written.
+// Both lie in one memory, so each cell is taken out by value first.
 fn copy<T: Copy>(cells: &mut [T], rows: RowPair)
     requires { LieWithin rows (length cells.old) }
-    ensures { cells.new ≡ with_row cells.old rows.width rows.to (row_of cells.old rows.width rows.from) }
+    ensures { let from = row_of cells.old rows.width rows.from in
+        cells.new ≡ with_row cells.old rows.width rows.to from }
 {
     for j in 0..rows.width {
         let v = cells[rows.from * rows.width + j];
