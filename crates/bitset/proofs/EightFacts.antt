@@ -1,7 +1,6 @@
 -- Flags taken eight at a time.
-use Rattle.std.proofs.Common.{◌≡◌, ℕ, zero, suc, ◌+◌, ◌-◌, ◌*◌, ◌/◌, ◌%◌, ◌^◌, ◌<◌, ◌≤◌, ◌∷◌, [], Bool, true, false, cond, ◌&&◌, ◌==◌, get_or, zero-add, List, length, replicate, take, drop, length-take, length-drop, refl, sym, ap, ap₂, subst, ◌∙◌, arith, pow_mono, pow-add, eqb-true}
+use Rattle.std.proofs.Common.{◌≡◌, ℕ, zero, suc, ◌+◌, ◌-◌, ◌*◌, ◌/◌, ◌%◌, ◌^◌, ◌<◌, ◌≤◌, ◌∷◌, [], Bool, true, false, cond, ◌&&◌, ◌==◌, get_or, zero-add, List, length, replicate, take, drop, length-take, length-drop, refl, sym, ap, ap₂, ◌∙◌, arith, pow_mono, pow-add, eqb-true}
 use Rattle.std.specs.Int.{w64, from_le_bytes}
-use Rattle.std.specs.Int.Bits.{or_shifted_r}
 use Rattle.std.proofs.lemmas.Grind.{or_after_shift, common_steps}
 use Rattle.std.proofs.lemmas.Bool.{and_parts}
 use Rattle.std.proofs.lemmas.List.{places}

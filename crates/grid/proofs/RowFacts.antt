@@ -1,7 +1,7 @@
 -- A row that was written, cell by cell or whole: what stands in it, and that nothing beside it changed.
-use Rattle.std.proofs.Common.{◌≡◌, ℕ, ◌+◌, ◌*◌, ◌<◌, ◌≤◌, ◌⊎◌, cond, eqb, List, length, get_or, replicate, set, ◌∙◌, inl, inr, ⊎_elim, arith, length-drop, length-take, rules}
+use Rattle.std.proofs.Common.{◌≡◌, ℕ, ◌+◌, ◌*◌, ◌<◌, ◌≤◌, ◌⊎◌, cond, eqb, List, length, get_or, set, ◌∙◌, inl, inr, ⊎_elim, arith, length-drop, length-take, rules}
 use Rattle.std.proofs.lemmas.Grind.{common_steps, get_or-set_at}
-use Rattle.std.proofs.lemmas.List.{places, length-replicate, get_or-set_other}
+use Rattle.std.proofs.lemmas.List.{places, get_or-set_other}
 use Rattle.std.proofs.lemmas.List.Edits.{length-paste}
 use Rattle.std.proofs.lemmas.List.FromFn.{length-map-range_with_len, get_or-map-range_with_len}
 use Rattle.std.proofs.lemmas.Bool.{cases_lt, cases_eq, eq-eqb, ne_eqb}

@@ -7,7 +7,7 @@ use Rattle.history.specs.Marks.{tick, marks}
 use Rattle.history.specs.HappenedBefore.{Immediate}
 use Rattle.history.specs.Rows.{Payload, Cell}
 use Rattle.history.specs.Runs.{Size, Call}
-use Rattle.history.specs.Board.{own_clock, run}
+use Rattle.history.specs.Board.{run}
 use Rattle.history.specs.Laws.{happened, Answered, MarksAnswered, MessagesAnswered, message_told}
 use Rattle.history.proofs.RowOf.{Row}
 use Rattle.history.proofs.Holds.{Once}
