@@ -1,4 +1,6 @@
-pub mod Bits
-pub mod Members
-pub mod Parts
-pub mod Places
+mod BitFacts
+mod EightFacts
+mod MemberFacts
+mod PartFacts
+mod PositionFacts
+pub mod Promises

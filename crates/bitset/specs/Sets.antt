@@ -1,5 +1,5 @@
 -- Sets of numbers as the bits of a word.
-use Rattle.std.specs.Prelude.{◌≡◌, ℕ, zero, suc, ◌/◌, ◌%◌, ◌^◌, ◌≤◌, Bool, ◌&&◌, if◌then◌else◌, not, ◌==◌, bit_and, bit_or}
+use Rattle.std.specs.Prelude.{◌≡◌, ℕ, zero, suc, ◌/◌, ◌%◌, ◌^◌, ◌≤◌, Bool, false, ◌&&◌, if◌then◌else◌, not, ◌==◌, List, length, min, bit_and, bit_or, slice_index_or}
 
 -- 1 where q is in the set, else 0
 abbrev pub bit : ℕ → ℕ → ℕ
@@ -33,3 +33,7 @@ within a b = bit_and a b == a
 abbrev pub those : (ℕ → Bool) → ℕ → ℕ
 those f zero = 0
 those f (suc n) = if f n then bit_or (those f n) (2 ^ n) else those f n
+
+-- the places, below 64, whose flag is yes
+abbrev pub positions_in : List Bool → ℕ
+positions_in flags = those (λ q. slice_index_or flags q false) (min (length flags) 64)

@@ -3,7 +3,7 @@ use Rattle.std.proofs.Common.{◌≡◌, ℕ, ◌+◌, ◌*◌, ◌<◌, ◌≤�
 use Rattle.std.proofs.lemmas.Bool.Decides.{nat_tests}
 use Rattle.grid.specs.declared.Grid.{Grid}
 use Rattle.grid.specs.Grids.{has_row}
-use Rattle.grid.proofs.Cells.{row_fits}
+use Rattle.grid.proofs.Promises.{row_fits}
 use Rattle.causality.specs.Boards.{Memory, has_all_rows, has_room}
 use Rattle.causality.specs.Calls.{Room, Ready}
 

@@ -9,5 +9,4 @@ pub mod Promises
 mod Receiving
 mod Sending
 mod Showing
-mod Sweeping
 mod Writing

@@ -5,7 +5,7 @@ use Rattle.std.proofs.lemmas.Bool.Decides.{nat_tests}
 use Rattle.std.proofs.lemmas.List.{places}
 use Rattle.grid.specs.declared.Grid.{Grid}
 use Rattle.grid.specs.Grids.{has_first_rows}
-use Rattle.grid.proofs.Cells.{row_fits}
+use Rattle.grid.proofs.Promises.{row_fits}
 use Rattle.history.specs.Messages.{unsent}
 use Rattle.history.specs.declared.refusals.Refusal.{Refusal}
 use Rattle.history.specs.Rows.{Payload}

@@ -1,13 +1,13 @@
 -- A mark that is taken follows the rules: its unit's row is rewritten, and no other.
-use Rattle.std.proofs.Common.{◌≡◌, ℕ, ◌+◌, ◌*◌, ◌<◌, ◌≤◌, Bool, true, false, cond, eqb, length, None, Ok, get_or, min, sym, refl, ap, ◌∙◌, inl, inr, arith, length-drop, length-take, rules}
+use Rattle.std.proofs.Common.{◌≡◌, ℕ, ◌+◌, ◌*◌, ◌<◌, ◌≤◌, Bool, true, false, cond, eqb, length, None, Ok, get_or, take, drop, min, sym, refl, ap, ◌∙◌, inl, inr, arith, length-drop, length-take, rules}
 use Rattle.std.proofs.lemmas.Bool.{cases_eq, eq-eqb, ne_eqb}
 use Rattle.std.proofs.lemmas.Bool.Decides.{nat_tests}
 use Rattle.std.proofs.lemmas.List.{places}
-use Rattle.bitset.specs.Sets.{has, those}
-use Rattle.bitset.proofs.Places.{those_same, has_those, those_below}
+use Rattle.bitset.specs.Sets.{has, those, positions_in}
+use Rattle.bitset.proofs.Promises.{those_same, has_those, those_below}
 use Rattle.grid.specs.declared.Grid.{Grid}
-use Rattle.grid.specs.Rows.{row}
-use Rattle.grid.proofs.Written.{RowIs, row_same}
+use Rattle.grid.specs.Rows.{row, RowIs}
+use Rattle.grid.proofs.Promises.{row_same}
 use Rattle.history.specs.declared.calls.Event.TheVariants.{Mark}
 use Rattle.history.specs.Rows.{mark_row}
 use Rattle.history.specs.declared.cells.Cell.{Cell}
@@ -16,7 +16,7 @@ use Rattle.history.specs.Limits.{most_marks, most_units}
 use Rattle.history.specs.Runs.{call}
 use Rattle.causality.specs.Boards.{Memory, Shows, Follows, has_room}
 use Rattle.causality.specs.Calls.{Room, Ready}
-use Rattle.causality.specs.Payloads.{Reads, flags_in, size_on, payload_on, PayloadRules}
+use Rattle.causality.specs.Payloads.{Reads, size_on, payload_on, PayloadRules}
 use Rattle.causality.proofs.Calling.{room_row}
 use Rattle.causality.proofs.Following.{taken_follows}
 use Rattle.causality.proofs.Showing.{same_from, same_all, holds_unit}
@@ -91,14 +91,15 @@ module _ {V : Type 0} (rules : PayloadRules V) (n k u l : ℕ) (labelled : rules
         posts = rw wp (same_all _ k old.posts);
       }))
 
--- the flags of a row of a board, as a number
-pub flagged_row : {n k : ℕ} {g : Grid Bool} → Room n k g → n ≤ most_units → (u : ℕ) → u < n + k → (units : ℕ) → units ≡ flags_in (row g.cells.now n u)
-    → units ≡ those (λ j. get_or g.cells.now (u * n + j) false) n
-flagged_row {n = n} {g = g} r few u h units is =
+-- the flags of a row of a board, taken as a part of the cells, as a number
+pub flagged_row : {n k : ℕ} {g : Grid Bool} → Room n k g → n ≤ most_units → (u size : ℕ) → u < n + k → size ≡ n → (units : ℕ)
+    → units ≡ positions_in (take size (drop (u * n) g.cells.now)) → units ≡ those (λ j. get_or g.cells.now (u * n + j) false) n
+flagged_row {n = n} {g = g} r few u size there whole units is =
     let cells = row g.cells.now n u in
-    let inside = room_row r u h in
+    let inside = room_row r u there in
     let long : length cells ≡ n = simp (length-take, length-drop) (omega arith) in
     let count : min (length cells) 64 ≡ n = omega arith in
     is
+    ∙ ap (λ (w : ℕ). positions_in (take w (drop (u * n) g.cells.now))) whole
     ∙ ap (those (λ j. get_or cells j false)) count
     ∙ those_same _ _ n (λ j l. search (rules, places))

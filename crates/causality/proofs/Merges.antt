@@ -2,7 +2,7 @@
 use Rattle.std.proofs.Common.{◌≡◌, ℕ, ◌+◌, ◌*◌, ◌<◌, Bool, false, List, length, set, ap, ◌∙◌, ap₂}
 use Rattle.grid.specs.declared.RowPair.{RowPair}
 use Rattle.grid.specs.Grids.{LieWithin, with_cells}
-use Rattle.grid.proofs.Cells.{column_kept, column_written}
+use Rattle.grid.proofs.Promises.{column_kept, column_written}
 use Rattle.history.specs.Rows.{merged_cell}
 use Rattle.history.specs.declared.cells.Cell.{Cell}
 use Rattle.causality.specs.Merging.{merged_row}

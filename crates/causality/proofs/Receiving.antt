@@ -2,7 +2,8 @@
 use Rattle.std.proofs.Common.{◌≡◌, ℕ, ◌+◌, ◌*◌, ◌<◌, false, None, Ok, get_or, set, sym, refl, ap, ◌∙◌, ap₂, arith}
 use Rattle.std.proofs.lemmas.Bool.Decides.{nat_tests}
 use Rattle.grid.specs.declared.RowPair.{RowPair}
-use Rattle.grid.proofs.Written.{RowIs, row_same}
+use Rattle.grid.specs.Rows.{RowIs}
+use Rattle.grid.proofs.Promises.{row_same}
 use Rattle.history.specs.declared.messages.Handling.TheVariants.{Receiving}
 use Rattle.history.specs.declared.messages.Post.{Post}
 use Rattle.history.specs.Messages.{unsent, moved}

@@ -1,7 +1,8 @@
 -- A send that is taken follows the rules: the message's row becomes the unit's, and no other.
 use Rattle.std.proofs.Common.{◌≡◌, ℕ, ◌+◌, ◌*◌, ◌<◌, false, None, Ok, get_or, set, sym, refl, ap, ◌∙◌, arith}
 use Rattle.std.proofs.lemmas.Bool.Decides.{nat_tests}
-use Rattle.grid.proofs.Written.{RowIs, other_row, row_same}
+use Rattle.grid.specs.Rows.{RowIs}
+use Rattle.grid.proofs.Promises.{other_row, row_same}
 use Rattle.history.specs.declared.messages.Handling.TheVariants.{Sending}
 use Rattle.history.specs.declared.messages.Post.{Post}
 use Rattle.history.specs.Messages.{unsent, moved}

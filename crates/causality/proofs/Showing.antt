@@ -2,8 +2,8 @@
 use Rattle.std.proofs.Common.{◌≡◌, ℕ, ◌+◌, ◌*◌, ◌<◌, ◌≤◌, List, length, get_or, set, sym, ap, ◌∙◌, refl, inl, inr, arith}
 use Rattle.std.proofs.lemmas.Grind.{common_steps, get_or-set_at}
 use Rattle.std.proofs.lemmas.List.{get_or-set_other}
-use Rattle.grid.proofs.Cells.{row_fits}
-use Rattle.grid.proofs.Written.{RowIs, other_row}
+use Rattle.grid.proofs.Promises.{row_fits, other_row}
+use Rattle.grid.specs.Rows.{RowIs}
 use Rattle.history.specs.declared.messages.Post.{Post}
 use Rattle.history.specs.Messages.{unsent}
 use Rattle.history.specs.Board.{State}

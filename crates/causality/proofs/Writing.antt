@@ -1,11 +1,15 @@
 -- What the calls of a grid write, where the grid has room for a board.
-use Rattle.std.proofs.Common.{◌≡◌, ℕ, ◌+◌, ◌*◌, ◌<◌, Bool, true, cond, eqb, List, get_or, length, replicate, set, subst, refl, ap, ◌∙◌, if◌then◌else◌, ◌&&◌, nat_lt, arith}
-use Rattle.std.proofs.lemmas.Bool.{lt-ltb}
+use Rattle.std.proofs.Common.{◌≡◌, ℕ, ◌+◌, ◌*◌, ◌<◌, Bool, true, cond, eqb, List, get_or, length, take, drop, replicate, set, subst, refl, sym, ap, ◌∙◌, inl, inr, if◌then◌else◌, length-take, length-drop, length-set, arith}
+use Rattle.std.proofs.lemmas.Bool.{cases_eq, eq-eqb, ne_eqb}
+use Rattle.std.proofs.lemmas.Grind.{get_or-set_at}
+use Rattle.std.proofs.lemmas.List.{get_or-replicate, get_or-set_other, length-replicate}
+use Rattle.std.proofs.lemmas.Slice.{put_mid-paste}
+use borrow.Rule.Slice.PartMut.{put_mid}
 use Rattle.grid.specs.declared.Grid.{Grid}
 use Rattle.grid.specs.declared.RowPair.{RowPair}
-use Rattle.grid.specs.Grids.{has_row, has_rows, with_cells, LieWithin, SameLoan}
-use Rattle.grid.specs.Rows.{row, with_row}
-use Rattle.grid.proofs.Written.{RowIs, copied_row, filled_row, cell_set, tabled_row, row_same, twice}
+use Rattle.grid.specs.Grids.{has_rows, with_cells, LieWithin}
+use Rattle.grid.specs.Rows.{row, with_row, RowIs}
+use Rattle.grid.proofs.Promises.{cell_set, copied_row, row_same, tabled_row, twice, written_row}
 use Rattle.history.specs.declared.cells.Cell.{Cell}
 use Rattle.causality.specs.Merging.{merged_row}
 use Rattle.causality.proofs.Calling.{room_row, room_there}
@@ -22,32 +26,39 @@ module _ {X : Type 0} {n k : ℕ} {g : Grid X} (r : Room n k g) (d : X) (new : L
       copied_row n to d g.cells.now (room_row r to ht) from new (room_row r from hf)
       (is ∙ rw (rows_there r from to hf ht) (ap (λ (w : ℕ). with_row g.cells.now w to (row g.cells.now w from)) r.width))
 
-  pub filled : (t : ℕ) (v : X) → t < n + k
-      → new ≡ (if has_row g t then with_row g.cells.now g.width t (replicate g.width v) else g.cells.now) → RowIs n t d (λ j. v) g.cells.now new
-  filled t v h is = filled_row n t d g.cells.now (room_row r t h) v new (is ∙ rw (room_there r t h) (ap (λ (w : ℕ). with_row g.cells.now w t (replicate w v)) r.width))
+-- A row of the board that was written as a part of the cells, of n cells and from u * n on.
+module _ {X : Type 0} {n k : ℕ} {g : Grid X} (r : Room n k g) (d : X) (u size : ℕ) (there : u < n + k) (whole : size ≡ n) where
+  -- from a list
+  part_row : (ys zs : List X) → ys ≡ zs → length zs ≡ n → RowIs n u d (λ j. get_or zs j d) g.cells.now (put_mid (u * n) size g.cells.now ys)
+  part_row ys zs is long =
+      subst (λ (new : List X). RowIs n u d (λ j. get_or zs j d) g.cells.now new)
+      (sym (put_mid-paste (u * n) size g.cells.now ys zs n is (sym whole) (sym long)))
+      (written_row n u d g.cells.now (room_row r u there) zs (omega arith))
 
-  pub put_cell : (t u : ℕ) (v : X) → t < n + k → u < n
-      → new ≡ (if has_row g t && nat_lt u g.width then set g.cells.now (t * g.width + u) v else g.cells.now) → RowIs n t d (λ j. cond (eqb j u) v (get_or g.cells.now (t * n + j) d)) g.cells.now new
-  put_cell t u v h hu is = cell_set n t d g.cells.now (room_row r t h) u v new hu (is ∙ rw (room_there r t h, r.width, lt-ltb u n hu) refl)
+  part_length : length (take size (drop (u * n) g.cells.now)) ≡ n
+  part_length = let inside = room_row r u there in simp (length-take, length-drop) (omega arith)
 
--- a row that is filled, and then one cell of it set
-pub reset : {X : Type 0} {n k : ℕ} {g mid : Grid X} → Room n k g → SameLoan g mid → (d v w : X) (new : List X) (t u : ℕ) → t < n + k → u < n
-    → mid.cells.now ≡ (if has_row g t then with_row g.cells.now g.width t (replicate g.width v) else g.cells.now)
-    → new ≡ (if has_row mid t && nat_lt u mid.width then set mid.cells.now (t * mid.width + u) w else mid.cells.now)
-    → RowIs n t d (λ j. cond (eqb j u) w v) g.cells.now new
-reset {n = n} {k = k} {g = g} {mid = mid} r same d v w new t u h hu first second =
-    let a = filled r d mid.cells.now t v h first in
-    let rm : Room n k mid = record { width = same.width ∙ r.width; cells = omega (arith, r.cells, a.same_length) } in
-    let b = put_cell rm d new t u w h hu second in
-    twice a (row_same b (λ j. cond (eqb j u) w v) (λ j l. ap (cond (eqb j u) w) (a.here j l)))
+  -- one value throughout, and then another in cell u
+  pub filled_then_set : (v w : X) (ys new : List X) → u < n → ys ≡ replicate (length (take size (drop (u * n) g.cells.now))) v
+      → new ≡ set (put_mid (u * n) size g.cells.now ys) (u * n + u) w → RowIs n u d (λ j. cond (eqb j u) w v) g.cells.now new
+  filled_then_set v w ys new own is after =
+      let mid = put_mid (u * n) size g.cells.now ys in
+      let a : RowIs n u d (λ j. v) g.cells.now mid =
+      row_same (part_row ys (replicate n v) (is ∙ ap (λ (m : ℕ). replicate m v) part_length) (length-replicate n v)) (λ j. v) (λ j h. get_or-replicate n j v d h) in
+      let b = cell_set n u d mid (omega (arith, room_row r u there, a.same_length)) u w new own after in
+      twice a (row_same b (λ j. cond (eqb j u) w v) (λ j h. ap (cond (eqb j u) w) (a.here j h)))
 
--- a row that is filled, and then one cell of it set, in memory that is known to have it
-pub reset_in : {X : Type 0} {n k : ℕ} {g : Grid X} → Room n k g → (d v w : X) (mid new : List X) (t u : ℕ) → t < n + k → u < n
-    → mid ≡ with_row g.cells.now n t (replicate n v) → new ≡ set mid (t * n + u) w → RowIs n t d (λ j. cond (eqb j u) w v) g.cells.now new
-reset_in {n = n} {g = g} r d v w mid new t u h hu first second =
-    let a = filled_row n t d g.cells.now (room_row r t h) v mid first in
-    let b = cell_set n t d mid (omega (arith, room_row r t h, a.same_length)) u w new hu second in
-    twice a (row_same b (λ j. cond (eqb j u) w v) (λ j l. ap (cond (eqb j u) w) (a.here j l)))
+  -- one value in cell u, and another elsewhere
+  pub reset_row_is : (v w : X) (ys : List X) → u < n → ys ≡ set (replicate (length (take size (drop (u * n) g.cells.now))) v) u w
+      → RowIs n u d (λ j. cond (eqb j u) w v) g.cells.now (put_mid (u * n) size g.cells.now ys)
+  reset_row_is v w ys own is =
+      row_same
+      (part_row ys (set (replicate n v) u w) (is ∙ ap (λ (m : ℕ). set (replicate m v) u w) part_length) (length-set (replicate n v) u w ∙ length-replicate n v))
+      (λ j. cond (eqb j u) w v)
+      (λ j h. elim (cases_eq j u) [
+        | inl e ↦ rw (eq-eqb j u e) (get_or-set_at (replicate n v) u j w d e (omega (arith, length-replicate n v)))
+        | inr o ↦ rw (ne_eqb j u o) (get_or-set_other (replicate n v) u j w d (λ i. o (omega arith)) ∙ get_or-replicate n j v d h)
+      ])
 
 -- a row of the board that a merge wrote, with the start
 pub row_merged : {V X : Type 0} {n k : ℕ} {g : Grid X} → Room n k g → (d : X) (start first : V) → first ≡ start → (cs : List ℕ) (fs : List Bool) (vs : List V) (rows : RowPair) (part : Cell V → X) (new : List X)

@@ -1,6 +1,6 @@
 -- What the cells of a board carry beside clocks and flags.
-use Rattle.std.specs.Prelude.{◌≡◌, ℕ, ◌^◌, ◌<◌, Bool, true, false, List, length, min, slice_index_or}
-use Rattle.bitset.specs.Sets.{has, those}
+use Rattle.std.specs.Prelude.{◌≡◌, ℕ, ◌^◌, ◌<◌, Bool, true, List, slice_index_or}
+use Rattle.bitset.specs.Sets.{has}
 use Rattle.history.specs.declared.cells.Cell.{Cell}
 use Rattle.history.specs.Limits.{most_marks}
 use Rattle.history.specs.Rows.{Payload}
@@ -31,7 +31,3 @@ pub record Reads {V : Type 0} (start : V) (n : ℕ) (r : ℕ → Cell V) (set : 
   pub below : set < 2 ^ n
   pub flags : (j : ℕ) → j < n → has set j ≡ (r j).flag
   pub cells : (j : ℕ) → j < n → slice_index_or values j start ≡ (r j).value
-
--- the units whose flag in a row is yes, as a number
-abbrev pub flags_in : List Bool → ℕ
-flags_in flags = those (λ j. slice_index_or flags j false) (min (length flags) 64)

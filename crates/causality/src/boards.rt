@@ -3,17 +3,15 @@
 //! Each call asks its questions first, each once and in its order, and the first no refuses it; what it does then cannot fail. The board's rows
 //! and the states of its messages lie in memory that the caller brings to each call: a grid of clocks, one of flags and one of values, each as
 //! wide as the board has units, with row u for unit u and row units + m for message m; and a slice with a place for each message.
-ghost use Rattle.std.specs.Prelude.{◌≡◌, ◌+◌, ◌*◌, ◌<◌, ◌≤◌, ◌++◌, drop, length, replicate, false, count_by, slice_index_or};
-ghost use Rattle.bitset.specs.Sets.{those};
-ghost use Rattle.grid.specs.Rows.{row as row_of, with_row};
+ghost use Rattle.std.specs.Prelude.{◌≡◌, ◌+◌, ◌*◌, ◌<◌, ◌≤◌, ◌++◌, drop, length, replicate, count_by, slice_set};
 ghost use Rattle.history.specs.Limits.{most_messages, most_units};
 ghost use Rattle.history.specs.Messages.{travels, unsent};
-ghost use Rattle.causality.specs.Payloads.{flags_in};
 
 use super::merging::merge_rows;
 use super::payloads::Payload;
 use super::{MAX_MESSAGES, MAX_UNITS};
-use grid::{Grid, RowPair, at_or, fill, reset_row};
+use bitset::take_positions;
+use grid::{Grid, RowPair, at_or, fill, put};
 use history::{Clock, Handling, Marked, Post, Refusal};
 
 /// A board of so many units and messages, whose cells carry a payload beside clocks and flags.
@@ -318,13 +316,18 @@ impl<P: Payload> Board<P> {
     {
         let own = self.ask_mark(clocks, flags, values, posts, unit, label)?;
         let clock = own + 1;
-        let predecessors = take_flags(flags.cells, self.units, unit);
+        let start = unit * self.units;
+        let end = start + self.units;
+        let predecessors = take_positions(&mut flags.cells[start..end]);
         let value = self.worth_in(values, predecessors, unit, label);
-        reset_row(values.cells, self.units, unit, self.payload.start());
-        let at = unit * self.units + unit;
-        clocks.cells[at] = clock;
-        flags.cells[at] = true;
-        values.cells[at] = value;
+        reset_row(
+            &mut values.cells[start..end],
+            unit,
+            self.payload.start(),
+            value,
+        );
+        clocks.cells[start + unit] = clock;
+        flags.cells[start + unit] = true;
         Ok(Marked {
             clock,
             predecessors,
@@ -403,55 +406,12 @@ impl<P: Payload> Board<P> {
     }
 }
 
-// Takes the flags of a row that is there, as a number with a bit for each unit whose flag is yes; all become no.
-fn take_flags(flags: &mut [bool], width: usize, row: usize) -> u64
-    requires row { row * width + width ≤ length flags.old }
-    requires few { width ≤ 64 }
-    ensures units { result ≡ flags_in (row_of flags.old width row) }
-    ensures cells { flags.new ≡ with_row flags.old width row (replicate width false) }
+// Sets each cell of a row, and then the one of a unit.
+fn reset_row<T: Copy>(row: &mut [T], unit: usize, v: T, own: T)
+    ensures { row.new ≡ slice_set (replicate (length row.old) v) unit own }
 {
-    let start = row * width;
-    sweep(&mut flags[start..start + width])
-}
-
-// Takes some flags, from the last to the first, as a number with a bit for each that is yes; all become no. Eight at a time while there are so many.
-fn sweep(flags: &mut [bool]) -> u64
-    requires { length flags.old ≤ 64 }
-    ensures set { result ≡ flags_in flags.old }
-    ensures cells { flags.new ≡ replicate (length flags.old) false }
-{
-    let mut set = 0;
-    let mut q = flags.len();
-    while q >= 8 {
-        q -= 8;
-        set = set << 8 | eight(flags, q);
-        fill(&mut flags[q..q + 8], false);
-    }
-    while q > 0 {
-        q -= 1;
-        set = set << 1 | u64::from(flags[q]);
-        flags[q] = false;
-    }
-    set
-}
-
-// The eight flags from a place on, as a number with a bit for each that is yes: each is a byte of a word, and the product has the bits of all
-// in its highest byte.
-fn eight(flags: &[bool], q: usize) -> u64
-    requires { q + 8 ≤ length flags.now }
-    ensures { result ≡ those (λ i. slice_index_or flags.now (q + i) false) 8 }
-{
-    let bytes = [
-        u8::from(flags[q]),
-        u8::from(flags[q + 1]),
-        u8::from(flags[q + 2]),
-        u8::from(flags[q + 3]),
-        u8::from(flags[q + 4]),
-        u8::from(flags[q + 5]),
-        u8::from(flags[q + 6]),
-        u8::from(flags[q + 7]),
-    ];
-    u64::from_le_bytes(bytes).wrapping_mul(0x0102_0408_1020_4080) >> 56
+    fill(row, v);
+    put(row, unit, own);
 }
 
 // The first messages become as they are before anything is sent.

@@ -45,7 +45,7 @@ pub fn merge_cell<V: Copy>(start: V, own: Cell<V>, other: Cell<V>) -> Cell<V>
 }
 
 // Merges cell j of row `from` into cell j of row `to`; the other row's cell is taken out by value first.
-#[tactic(auto, using(grid::proofs::Cells::put_at))]
+#[tactic(auto, using(grid::proofs::Promises::put_at))]
 fn merge_column<V: Copy>(
     start: V,
     clocks: &mut [Clock],

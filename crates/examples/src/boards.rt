@@ -9,6 +9,7 @@ use measures::{
     mark_judged, replay,
 };
 use std::test::Fail;
+use text::Cursor;
 
 // The number of the refusal, if there is one.
 fn refused<T: Drop>(answered: Result<T, Refusal>) -> Option<u8> {
@@ -598,7 +599,13 @@ fn the_last_mark_under_other_measures(rt: HostRuntime) -> Result<(), Fail> {
     replayed(Span::new(3, 2)?, &mut [written; 18], &calls, &mut spans)?;
     assert_eq!(rt; told(spans[9]), Ok((2, Some((5, both)))));
     let pattern = Pattern::read(&PATTERN)?;
-    let relabelling = Relabelling::read(&[0x30, 3, 1, 2, 0], 0, pattern)?;
+    let relabelling = Relabelling::read(
+        Cursor {
+            input: &[0x30, 3, 1, 2, 0],
+            place: 0,
+        },
+        pattern,
+    )?;
     let mut sets = [Err(UNWRITTEN); 10];
     replayed(relabelling, &mut [9; 18], &two_flows(2, 0, 1), &mut sets)?;
     assert_eq!(rt; told(sets[9]), Ok((2, Some((5, 0x18)))));
@@ -646,7 +653,13 @@ fn marks_judged(rt: HostRuntime) -> Result<(), Fail> {
         all: false,
     };
     let pattern = Pattern::read(&PATTERN)?;
-    let relabelling = Relabelling::read(&[0x30, 3, 1, 2, 0], 0, pattern)?;
+    let relabelling = Relabelling::read(
+        Cursor {
+            input: &[0x30, 3, 1, 2, 0],
+            place: 0,
+        },
+        pattern,
+    )?;
     let span = Span::new(3, 2)?;
     assert_eq!(rt; judged(relabelling, &mut [0], &[0, 2, 1])?, Some(good));
     assert_eq!(rt; judged(relabelling, &mut [0], &[0, 2])?, Some(bad));

@@ -1,8 +1,8 @@
 // Messages that move on, stamps that are compared, rows that are copied and merged, and what marks are worth.
 use super::reading::PATTERN;
-use bitset::positions;
+use bitset::take_positions;
 use causality::{Bare, Board, Stamp, compare, merge_cell};
-use grid::Grid;
+use grid::{Grid, put};
 use history::{Cell, Clock, Handling, Post};
 use measures::{FlowCount, Lengths, Measured, Pattern, Span, mark_value};
 use std::test::Fail;
@@ -150,7 +150,8 @@ fn two_messages_from_one_mark(rt: HostRuntime) -> Result<(), Fail> {
 // A mark joins the values of its immediate predecessors; one that has none begins a flow.
 #[test]
 fn marks_join_the_flows_before_them(rt: HostRuntime) -> Result<(), Fail> {
-    let flags = [true, false, true];
+    let mut flags = [true, false, true];
+    let mut many = [true; 65];
     let count = FlowCount::new(1)?;
     let span = Span::new(3, 9)?;
     let pattern = Pattern::read(&PATTERN)?;
@@ -162,10 +163,11 @@ fn marks_join_the_flows_before_them(rt: HostRuntime) -> Result<(), Fail> {
         shortest: 2,
         longest: 3,
     };
-    assert_eq!(rt; positions(&flags), 5);
-    assert_eq!(rt; positions(&[false; 3]), 0);
-    assert_eq!(rt; positions(&[true; 65]), u64::MAX);
-    let set = positions(&flags);
+    let set = take_positions(&mut flags);
+    assert_eq!(rt; set, 5);
+    assert_eq!(rt; take_positions(&mut flags), 0);
+    assert_eq!(rt; take_positions(&mut many), u64::MAX);
+    assert_eq!(rt; many, [false; 65]);
     assert_eq!(rt; mark_value(&count, set, &[2, 7, 1], 0), 3);
     assert_eq!(rt; mark_value(&count, 0, &[2, 7, 1], 0), 1);
     assert_eq!(rt; mark_value(&count, 1 << 63 | 1, &[2, 7, 1], 0), 3);
@@ -204,7 +206,7 @@ fn rows_of_every_kind(rt: HostRuntime) -> Result<(), Fail> {
     assert_eq!(rt; set_rows.cell(0, 1), Some(0x02));
     assert_eq!(rt; set_rows.row(0), Some(&[0x02, 0x02][..]));
     assert_eq!(rt; set_rows.row(3), None);
-    set_rows.fill_row(0, 0x01);
+    set_rows.fill_rows(1, 0x01);
     set_rows.copy_row(1, 2);
     set_rows.copy_row(3, 2);
     let board = Board::of_size(Measured { measure: pattern }, 2, 1)?;
@@ -222,8 +224,8 @@ fn rows_of_every_kind(rt: HostRuntime) -> Result<(), Fail> {
         shortest: 2,
         longest: 2,
     };
-    end_rows.set_cell(2, 1, two);
-    end_rows.set_cell(2, 2, two);
+    put(end_rows.cells, 5, two);
+    put(end_rows.cells, 7, two);
     let board = Board::of_size(Measured { measure: span }, 2, 1)?;
     let mut posts = [Post::OnItsWay];
     assert_eq!(rt;

@@ -2,6 +2,7 @@
 use super::reading::PATTERN;
 use measures::{FlowCount, Judge, Lengths, Measure, Pattern, Refusal, Relabelling, Span, carry};
 use std::test::Fail;
+use text::Cursor;
 
 // The number of the refusal, if there is one.
 fn refused<T: Drop>(made: Result<T, Refusal>) -> Option<u8> {
@@ -80,7 +81,13 @@ fn the_beacon_while_the_player_waits(rt: HostRuntime) -> Result<(), Fail> {
 #[test]
 fn other_labels_for_the_same_pattern(rt: HostRuntime) -> Result<(), Fail> {
     let pattern = Pattern::read(&PATTERN)?;
-    let relabelling = Relabelling::read(&[0x30, 3, 1, 2, 0], 0, pattern)?;
+    let relabelling = Relabelling::read(
+        Cursor {
+            input: &[0x30, 3, 1, 2, 0],
+            place: 0,
+        },
+        pattern,
+    )?;
     let good = carry(&relabelling, &[0, 2, 1]);
     assert_eq!(rt; good, 8);
     assert_eq!(rt; relabelling.all(good), true);

@@ -1,5 +1,6 @@
 // What the readers of patterns and relabellings refuse, with the place, and what they take.
 use measures::{Fault, Pattern, Relabelling};
+use text::Cursor;
 
 // Labels: 0 beacon, 1 waiting, 2 sound. A chain is good if it is made of rounds, one or more: a waiting, then waitings and beacons of which the last is a beacon, then a sound.
 pub const PATTERN: [u8; 27] = [
@@ -64,7 +65,8 @@ fn pattern_answer(input: &[u8]) -> Result<usize, (u8, usize)> {
 // The same of the relabelling after the pattern.
 fn relabelling_answer(input: &[u8]) -> Result<usize, (u8, usize)> {
     let pattern = Pattern::read(input).map_err(told)?;
-    Relabelling::read(input, pattern.size(), pattern)
+    let place = pattern.size();
+    Relabelling::read(Cursor { input, place }, pattern)
         .map(|relabelling| relabelling.size())
         .map_err(told)
 }

@@ -1,3 +1,3 @@
-pub mod Cells
-pub mod Reading
-pub mod Written
+mod CellFacts
+pub mod Promises
+mod RowFacts

@@ -1,9 +1,9 @@
 -- Grids: the rows that they have, how their calls refuse, and what no call changes.
-use Rattle.std.specs.Prelude.{◌≡◌, ℕ, ◌+◌, ◌*◌, ◌≤◌, Bool, ◌&&◌, List, length, nat_le}
+use Rattle.std.specs.Prelude.{◌≡◌, ℕ, ◌+◌, ◌*◌, ◌≤◌, Bool, ◌&&◌, if◌then◌else◌, List, ◌++◌, length, replicate, drop, Option, None, nat_lt, nat_le, slice_get}
 use Rattle.std.proofs.Math.Seq.{paste}
 use Rattle.grid.specs.declared.Grid.{Grid}
 use Rattle.grid.specs.declared.RowPair.{RowPair}
-use Rattle.grid.specs.Rows.{row_inside, tabled}
+use Rattle.grid.specs.Rows.{row, with_row, row_inside, tabled}
 
 module _ {T : Type 0} (g : Grid T) where
   -- whether all of row r lies within the cells of the grid
@@ -17,6 +17,23 @@ module _ {T : Type 0} (g : Grid T) where
   -- whether the first rows lie within the cells
   abbrev pub has_first_rows : ℕ → Bool
   has_first_rows rows = nat_le (rows * g.width) (length g.cells.now)
+
+  -- the cells of row r
+  abbrev pub row_in : ℕ → List T
+  row_in r = row g.cells.now g.width r
+
+  -- cell j of row r, or none where the row or the column is not there
+  abbrev pub cell_answer : ℕ → ℕ → Option T
+  cell_answer r j = if has_row r && nat_lt j g.width then slice_get g.cells.now (r * g.width + j) else None
+
+  -- the cells with v in each of the first rows, or as they are where those rows are not there
+  abbrev pub with_first_rows : ℕ → T → List T
+  with_first_rows rows v =
+      if has_first_rows rows then replicate (rows * g.width) v ++ drop (rows * g.width) g.cells.now else g.cells.now
+
+  -- the cells with a copy of one row in another, or as they are where a row is not there
+  abbrev pub with_row_copy : ℕ → ℕ → List T
+  with_row_copy from to = if has_rows from to then with_row g.cells.now g.width to (row_in from) else g.cells.now
 
 -- both rows lie within so many cells
 pub record LieWithin (rows : RowPair) (cells : ℕ) : Type 0 where

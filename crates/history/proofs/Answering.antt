@@ -4,7 +4,7 @@
 use Rattle.std.proofs.Common.{◌≡◌, ℕ, suc, true, ◌↔◌, List, Some, inl, inr, refl, ap, arith}
 use Rattle.std.proofs.lemmas.Bool.{cases_Bool}
 use Rattle.bitset.specs.Sets.{Member, those}
-use Rattle.bitset.proofs.Members.{those_members}
+use Rattle.bitset.proofs.Promises.{those_members}
 use Rattle.history.specs.Events.{Events, at}
 use Rattle.history.specs.declared.calls.Event.TheVariants.{Mark, Receive, Send}
 use Rattle.history.specs.declared.calls.Event.{Event}

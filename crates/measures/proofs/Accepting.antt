@@ -5,8 +5,7 @@ use Rattle.std.proofs.lemmas.Bool.{lt-ltb}
 use Rattle.std.proofs.lemmas.Bool.Decides.{same_from_decides, Decides-at, Decides-like, Decides-or, Decides-and}
 use Rattle.bitset.specs.Sets.{Member, meets, within}
 use Rattle.std.proofs.lemmas.Nat.Bits.{bit_at-pow_same}
-use Rattle.bitset.proofs.Bits.{bit_pow}
-use Rattle.bitset.proofs.Members.{member_or, or_member_left, or_member_right, meets_members, within_members}
+use Rattle.bitset.proofs.Promises.{bit_pow, member_or, or_member_left, or_member_right, meets_members, within_members}
 use Rattle.measures.specs.Words.{Word, Labels}
 use Rattle.measures.specs.Measures.{carried_from, carried}
 use Rattle.measures.specs.Judges.{Judges}

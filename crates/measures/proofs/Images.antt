@@ -6,9 +6,7 @@ use Rattle.std.proofs.lemmas.Bool.Decides.{nat_tests}
 use Rattle.bitset.specs.Sets.{Member, Without, has}
 use Rattle.std.specs.Int.Bits.{or_zero_r}
 use Rattle.std.proofs.lemmas.Nat.Bits.{bit_at-zero, bit_at-pow_same}
-use Rattle.bitset.proofs.Bits.{bit_pow, or_assoc}
-use Rattle.bitset.proofs.Parts.{put_back}
-use Rattle.bitset.proofs.Members.{same_members}
+use Rattle.bitset.proofs.Promises.{bit_pow, or_assoc, put_back, same_members}
 use Rattle.measures.specs.Automata.{image, Image}
 use Rattle.measures.specs.ImageLaws.{image_passed, image_into, image_from, image_or}
 

@@ -4,7 +4,7 @@ use Rattle.std.proofs.lemmas.Bool.{cases_lt, cases_eq, cond-true, cond-false}
 use Rattle.std.proofs.lemmas.Bool.Decides.{nat_tests}
 use Rattle.std.proofs.lemmas.Nat.Bits.{bit_at-zero, bit_at_above}
 use Rattle.bitset.specs.Sets.{Member, has}
-use Rattle.bitset.proofs.Members.{cases_bit}
+use Rattle.bitset.proofs.Promises.{cases_bit}
 use Rattle.history.specs.declared.cells.Cell.{Cell}
 use Rattle.measures.specs.Measures.{Meaning}
 use Rattle.measures.specs.Worths.{plus, gathered}

@@ -2,7 +2,7 @@
 use Rattle.std.proofs.Common.{◌≡◌, ℕ, ◌*◌, ◌^◌, ◌<◌, ◌≤◌, Bool, ◌||◌, ◌↔◌, List, ◌∷◌, get_or, sym, ap, ◌∙◌, subst, IsTrue}
 use Rattle.std.proofs.lemmas.Bool.Decides.{Decides-at, Decides-like, Decides-eqb}
 use Rattle.bitset.specs.Sets.{bit, has, meets, within}
-use Rattle.bitset.proofs.Members.{has_or}
+use Rattle.bitset.proofs.Promises.{has_or}
 use Rattle.measures.specs.Words.{Letter, Word, Labels}
 use Rattle.measures.specs.Measures.{Spelled, carried}
 use Rattle.measures.specs.Judges.{Judges}

@@ -6,7 +6,7 @@ use Rattle.std.proofs.lemmas.Grind.{common_steps}
 use Rattle.std.proofs.lemmas.Bool.Decides.{same_from_decides, Decides-eqb}
 use Rattle.std.specs.List.{AllByRecursion}
 use Rattle.bitset.specs.Sets.{bit, Member, has, meets, within}
-use Rattle.bitset.proofs.Members.{member_or, or_member_left, or_member_right}
+use Rattle.bitset.proofs.Promises.{member_or, or_member_left, or_member_right}
 use Rattle.measures.specs.Words.{Letter, Word, Labels}
 use Rattle.measures.specs.Measures.{carried, joined}
 use Rattle.measures.specs.Automata.{next, leads, state_sets}

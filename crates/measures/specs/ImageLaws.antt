@@ -5,8 +5,7 @@ use Rattle.std.proofs.Common.{sym, subst, inl, inr, ⊎_elim, arith}
 use Rattle.std.proofs.lemmas.Bool.{cases_lt, cond-true, cond-false, eq-eqb, ne_eqb, ltb-true, lt-ltb}
 use Rattle.bitset.specs.Sets.{bit, Member, has}
 use Rattle.std.proofs.lemmas.Nat.Bits.{bit_at-zero, bit_at-pow_same}
-use Rattle.bitset.proofs.Bits.{bit_pow}
-use Rattle.bitset.proofs.Members.{cases_bit, same_members, member_or, or_member_left, or_member_right, some_member, member_pos, below_members}
+use Rattle.bitset.proofs.Promises.{bit_pow, cases_bit, same_members, member_or, or_member_left, or_member_right, some_member, member_pos, below_members}
 use Rattle.measures.specs.Automata.{image}
 
 module _ (f : ℕ → ℕ) where

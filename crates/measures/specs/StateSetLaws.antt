@@ -5,7 +5,7 @@ use Rattle.std.proofs.Common.{arith, pow_pos}
 use Rattle.std.proofs.Math.Pow.{pow-lt}
 use Rattle.std.proofs.lemmas.Nat.{mul-add-lt, or_comm, or_lt}
 use Rattle.std.proofs.lemmas.Bool.{cond_both, cond-false, lt-ltb, le-ltb, ltb-true}
-use Rattle.bitset.proofs.Bits.{or_assoc, or_pos}
+use Rattle.bitset.proofs.Promises.{or_assoc, or_pos}
 use Rattle.measures.specs.Measures.{Lawful}
 use Rattle.measures.specs.Automata.{next, state_sets}
 use Rattle.measures.specs.ImageLaws.{image_or, image_below, image_pos}

@@ -8,7 +8,8 @@ use super::Measure;
 use super::judges::Judge;
 use super::refusals::{Fault, Refusal};
 use super::sizes::Count;
-use super::tables::{Rest, with_zeros};
+use super::tables::{table, with_zeros};
+use text::Cursor;
 
 // The inner label of each label; the first `count` entries are used. A plain struct of 64 entries with their count: a rule of the project.
 #[derive(Clone, Copy)]
@@ -34,29 +35,38 @@ impl LabelTable {
         if entry < n { entry } else { 0 }
     }
 
-    // The label count of the table at the front of the rest.
-    fn read_count(rest: Rest<'_>) -> Result<Count, Fault>
-        ensures { MatchResult result (λ n. (relabelling_head_fault rest.entry.input.now rest.entry.place ≡ None) × (n.number ≡ relabelling_labels_in rest.entry.input.now rest.entry.place) × (rest.entry.place + 2 ≤ length rest.entry.input.now)) (λ f. relabelling_head_fault rest.entry.input.now rest.entry.place ≡ Some f) }
+    // The label count of the table where the cursor stands.
+    fn read_count(cursor: Cursor<'_>) -> Result<Count, Fault>
+        ensures { let fault = relabelling_head_fault cursor.entry.input.now cursor.entry.place in
+            MatchResult result
+            (λ n. (fault ≡ None) × (n.number ≡ relabelling_labels_in cursor.entry.input.now cursor.entry.place)
+            × (cursor.entry.place + 2 ≤ length cursor.entry.input.now))
+            (λ f. fault ≡ Some f) }
     {
-        match rest.bytes() {
-            Some([0x30]) => Err(Fault::at(Refusal::TableTooShort, rest.input.len())),
+        match cursor.bytes() {
+            Some([0x30]) => Err(Fault::at(Refusal::TableTooShort, cursor.input.len())),
             Some([0x30, count, ..]) => {
-                Count::new(*count).ok_or(Fault::at(Refusal::LabelCount, rest.place + 1))
+                Count::new(*count).ok_or(Fault::at(Refusal::LabelCount, cursor.place + 1))
             }
-            _ => Err(Fault::at(Refusal::NotARelabelling, rest.place)),
+            _ => Err(Fault::at(Refusal::NotARelabelling, cursor.place)),
         }
     }
 
-    // The table at the front of the rest.
-    fn read(rest: Rest<'_>, n: u8) -> Result<LabelTable, Fault>
-        ensures { MatchResult result (λ t. (relabelling_fault rest.entry.input.now rest.entry.place n ≡ None) × (t.count.number ≡ relabelling_labels_in rest.entry.input.now rest.entry.place) × (t.entries ≡ padded 64 (entries_in rest.entry.input.now rest.entry.place))) (λ f. relabelling_fault rest.entry.input.now rest.entry.place n ≡ Some f) }
+    // The table where the cursor stands.
+    fn read(cursor: Cursor<'_>, n: u8) -> Result<LabelTable, Fault>
+        ensures { let fault = relabelling_fault cursor.entry.input.now cursor.entry.place n in
+            MatchResult result
+            (λ t. (fault ≡ None)
+            × (t.count.number ≡ relabelling_labels_in cursor.entry.input.now cursor.entry.place)
+            × (t.entries ≡ padded 64 (entries_in cursor.entry.input.now cursor.entry.place)))
+            (λ f. fault ≡ Some f) }
     {
-        let count = Self::read_count(rest)?;
-        let after = Rest {
-            place: rest.place + 2,
-            ..rest
+        let count = Self::read_count(cursor)?;
+        let after = Cursor {
+            place: cursor.place + 2,
+            ..cursor
         };
-        let entries = after.table(count.number as usize, n)?;
+        let entries = table(after, count.number as usize, n)?;
         Ok(LabelTable {
             entries: with_zeros(entries),
             count,
@@ -65,14 +75,20 @@ impl LabelTable {
 }
 
 impl<M: Measure> Relabelling<M> {
-    // The relabelling to the labels of `inner` whose bytes begin at the byte `at` of the input.
-    pub fn read(input: &[u8], at: usize, inner: M) -> Result<Relabelling<M>, Fault>
+    // The relabelling to the labels of `inner` whose bytes begin where the cursor stands. A fault is told at its place in the whole input.
+    pub fn read(cursor: Cursor<'_>, inner: M) -> Result<Relabelling<M>, Fault>
     where
         M: Drop,
-        ensures { MatchResult result (λ m. (relabelling_fault input.now at (M.meaning inner).labels ≡ None) × (m.table.count.number ≡ relabelling_labels_in input.now at) × (m.table.entries ≡ padded 64 (entries_in input.now at)) × (m.inner ≡ inner)) (λ f. relabelling_fault input.now at (M.meaning inner).labels ≡ Some f) }
+        ensures { let labels = (M.meaning inner).labels in
+            let fault = relabelling_fault cursor.entry.input.now cursor.entry.place labels in
+            MatchResult result
+            (λ m. (fault ≡ None)
+            × (m.table.count.number ≡ relabelling_labels_in cursor.entry.input.now cursor.entry.place)
+            × (m.table.entries ≡ padded 64 (entries_in cursor.entry.input.now cursor.entry.place))
+            × (m.inner ≡ inner))
+            (λ f. fault ≡ Some f) }
     {
-        let rest = Rest { input, place: at };
-        let table = LabelTable::read(rest, inner.labels())?;
+        let table = LabelTable::read(cursor, inner.labels())?;
         Ok(Relabelling { table, inner })
     }
 

@@ -1,27 +1,31 @@
-// What programs read and print: the front of an input, and a word in hexadecimal. Stands on nothing here.
+// What programs read and print: the front of an input and the place in it where reading goes on, and a word in hexadecimal.
+// Stands on nothing here.
 #![tactic(auto)]
 
 ghost use Rattle.std.specs.Prelude.{◌≡◌, length};
 ghost use Rattle.std.specs.Str.Parse.{digits_value};
 ghost use Rattle.text.specs.Hex.{hex_word};
 
+pub mod cursors;
 pub mod inputs;
 
+pub use cursors::Cursor;
 pub use inputs::{MOST_BYTES, read_input};
 use std::fmt;
 
-// A word that prints as 16 hexadecimal digits, lower case and highest first.
+/// A word that prints as 16 hexadecimal digits, lower case and highest first.
 #[derive(Clone, Copy, PartialEq, Eq, Debug)]
 pub struct Hex {
     pub word: u64,
 }
 
 impl Hex {
-    // The word to be printed; its digits read back as that word.
-    #[tactic(auto, using(crate::proofs::HexText::hex_word_length, crate::proofs::HexText::hex_word_reads))]
+    /// The word to be printed; its digits read back as that word.
+    #[tactic(auto, using(crate::proofs::HexFacts::hex_word_length, crate::proofs::HexFacts::hex_word_reads))]
     pub fn new(word: u64) -> Hex
         ensures word { result.word ≡ word }
-        ensures reads { (length (hex_word result.word) ≡ 16) × (digits_value 16 (hex_word result.word) ≡ word) }
+        ensures digits { length (hex_word result.word) ≡ 16 }
+        ensures reads { digits_value 16 (hex_word result.word) ≡ word }
     {
         Hex { word }
     }
@@ -33,7 +37,7 @@ impl fmt::Display for Hex {
 
     ghost output = { λ h. Some (hex_word h.word) };
 
-    #[tactic(auto, using(crate::proofs::HexText::padded_word))]
+    #[tactic(auto, using(crate::proofs::HexFacts::padded_word))]
     fn fmt<W: fmt::Write>(&self, f: &mut fmt::Formatter<W>) -> fmt::Result {
         let word = self.word;
         write!(f, "{word:016x}")

@@ -1,5 +1,5 @@
 use Rattle.std.proofs.Common.{◌^◌, ◌*◌, ◌%◌, ◌≡◌, arith, rules}
-use Rattle.bitset.proofs.Parts.{has_masked, has_below}
+use Rattle.bitset.proofs.PartFacts.{has_masked, has_below}
 use Rattle.bitset.proofs.below.Goals as goal
 
 pub returns-then-n-lt64 : goal.returns-then-n-lt64

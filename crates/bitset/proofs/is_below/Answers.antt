@@ -1,6 +1,6 @@
 use Rattle.std.proofs.Common.{arith}
 use Rattle.std.proofs.lemmas.Bool.Decides.{Decides-at}
-use Rattle.bitset.proofs.Members.{past_below, below_members}
+use Rattle.bitset.proofs.MemberFacts.{past_below, below_members}
 use Rattle.bitset.proofs.is_below.Goals as goal
 
 pub returns-then-n-ge64 : goal.returns-then-n-ge64

@@ -1,5 +1,5 @@
 use Rattle.std.proofs.Common.{◌*◌, ◌∙◌, arith}
-use Rattle.grid.proofs.Cells.{put_at, copied_more}
+use Rattle.grid.proofs.CellFacts.{put_at, copied_more}
 use Rattle.grid.proofs.copy.Goals as goal
 
 pub loop-j-preserved : goal.loop-j-preserved

@@ -8,9 +8,10 @@ use super::super::Measure;
 use super::super::judges::Judge;
 use super::super::refusals::{Fault, Refusal};
 use super::super::sizes::Count;
-use super::super::tables::{Rest, with_zeros};
+use super::super::tables::{table, with_zeros};
 use super::{Head, Pattern};
 use bitset::is_below;
+use text::Cursor;
 
 /// The first byte of a pattern.
 const TAG: u8 = 0x20;
@@ -73,8 +74,8 @@ impl Pattern {
         }
     {
         let head = Head::read(input)?;
-        let rest = Rest { input, place: HEAD };
-        let table = rest.table(head.entries(), head.states.number)?;
+        let after = Cursor { input, place: HEAD };
+        let table = table(after, head.entries(), head.states.number)?;
         Ok(Pattern {
             head,
             table: with_zeros(table),

@@ -1,5 +1,5 @@
 use Rattle.std.proofs.Common.{rules}
-use Rattle.bitset.proofs.Parts.{less_without}
+use Rattle.bitset.proofs.Promises.{less_without}
 use Rattle.measures.proofs.Members.{so_far_more, so_far_all}
 use Rattle.measures.proofs.marking.gather.Goals as goal
 

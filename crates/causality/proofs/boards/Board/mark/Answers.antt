@@ -1,9 +1,9 @@
-use Rattle.std.proofs.Common.{◌<◌, cond, eqb, false, true, refl, sym, ap, arith, rules}
-use Rattle.grid.proofs.Written.{row_same, cell_set}
+use Rattle.std.proofs.Common.{◌≡◌, ◌+◌, ◌-◌, ◌*◌, ◌<◌, cond, eqb, false, true, refl, sym, ap, arith, rules}
+use Rattle.grid.proofs.Promises.{row_same, cell_set}
 use Rattle.causality.specs.Boards.{memory}
 use Rattle.causality.proofs.Calling.{room_row}
 use Rattle.causality.proofs.Marks.{noted, flagged_row}
-use Rattle.causality.proofs.Writing.{reset_in}
+use Rattle.causality.proofs.Writing.{filled_then_set, reset_row_is}
 use Rattle.causality.proofs.boards.Board.mark.Goals as goal
 
 pub worth_in-value-requires-clause-row : goal.worth_in-value-requires-clause-row
@@ -23,16 +23,19 @@ returns g c =
     let (may, is) = c.in_ok-own.ensures in
     let r = may.ready in
     let hu : u < n = r.unit in
+    let there : u < n + k = omega arith in
+    let size = u * n + n - u * n in
+    let whole : size ≡ n = omega arith in
     record {
       follows = noted rules n k u a.label may.label old _ r may.below _ _ _
           (cell_set n u 0 a.clocks.now.cells.now (room_row r.clocks u (omega arith)) u _ _ hu refl)
-          (reset_in r.flags false false true _ _ u u (omega arith) hu c.take_flags-predecessors.ensures.cells refl)
+          (filled_then_set r.flags false u size there whole false true _ _ hu c.take_positions-predecessors.ensures.flags refl)
           (row_same
-          (reset_in r.values rules.start c.start.result _ _ _ u u (omega arith) hu c.reset_row.ensures refl)
+          (reset_row_is r.values rules.start u size there whole c.start.result c.worth_in-value.result _ hu c.reset_row.ensures)
           (λ j. cond (eqb j u) c.worth_in-value.result rules.start) (λ j h. ap (cond (eqb j u) c.worth_in-value.result) c.start.ensures))
           refl
           (omega (arith, is))
-          (flagged_row r.flags (omega (arith, a.self.now.few_units)) u (omega arith) _ c.take_flags-predecessors.ensures.units)
+          (flagged_row r.flags (omega (arith, a.self.now.few_units)) u size there whole _ c.take_positions-predecessors.ensures.positions)
           (λ t reads. c.worth_in-value.ensures n t reads);
       loans = search rules;
     }

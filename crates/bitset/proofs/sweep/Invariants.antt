@@ -1,6 +1,6 @@
 use Rattle.std.proofs.Common.{◌≡◌, ℕ, ◌+◌, ◌-◌, ◌<◌, ◌≤◌, Bool, false, length, slice_index_or}
 use Rattle.bitset.specs.Sets.{those}
-use Rattle.causality.proofs.boards.sweep.Given as goal
+use Rattle.bitset.proofs.sweep.Given as goal
 
 -- the flags from q on are taken, moved down by q, and are no; those below are as they were
 abbrev pub invariant-loop-q : goal.invariant-loop-q

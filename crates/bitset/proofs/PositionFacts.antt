@@ -7,7 +7,7 @@ use Rattle.std.proofs.lemmas.Bool.Decides.{nat_tests}
 use mir.Val.{bool_byte}
 use lib.Bits.{bit_or}
 use Rattle.bitset.specs.Sets.{has, those}
-use Rattle.bitset.proofs.Members.{cases_bit, below_members, those_members}
+use Rattle.bitset.proofs.MemberFacts.{cases_bit, below_members, those_members}
 
 -- sets of numbers below n that are told by tests which agree below n
 pub those_same : (f g : ℕ → Bool) (n : ℕ) → ((j : ℕ) → j < n → f j ≡ g j) → those f n ≡ those g n
@@ -27,7 +27,7 @@ pub those_below : (f : ℕ → Bool) (n : ℕ) → those f n < 2 ^ n
 those_below f n = ltb-true (those f n) (2 ^ n) ((below_members (those f n) n).1 (λ q m. ((those_members f n q).0 m).0))
 
 -- the number n stands above those below it
-those_last : (f : ℕ → Bool) (n : ℕ) → those f (suc n) ≡ cond (f n) (2 ^ n + those f n) (those f n)
+pub those_last : (f : ℕ → Bool) (n : ℕ) → those f (suc n) ≡ cond (f n) (2 ^ n + those f n) (those f n)
 those_last f n =
     let e : bit_or (those f n) (1 * 2 ^ n) ≡ 1 * 2 ^ n + those f n = or_shifted_r 1 n (those f n) (those_below f n) in
     let one : 1 * 2 ^ n ≡ 2 ^ n = omega arith in
@@ -35,7 +35,7 @@ those_last f n =
     ap (λ (x : ℕ). cond (f n) x (those f n)) d
 
 -- the number 0 stands below the others, which are moved up by one place
-pub those_first : (f : ℕ → Bool) (n : ℕ) → those f (suc n) ≡ those (λ i. f (suc i)) n * 2 + cond (f 0) 1 0
+those_first : (f : ℕ → Bool) (n : ℕ) → those f (suc n) ≡ those (λ i. f (suc i)) n * 2 + cond (f 0) 1 0
 those_first f zero = let a = those_last f 0 in omega arith
 those_first f (suc n) =
     let a = those_last f (suc n) in
@@ -44,7 +44,7 @@ those_first f (suc n) =
     grind (arith, nat_tests)
 
 -- one place more, below those from suc q on
-pub those_from : (f : ℕ → Bool) (q n : ℕ) → q < n → those (λ i. f (q + i)) (n - q) ≡ those (λ i. f (suc q + i)) (n - suc q) * 2 + cond (f q) 1 0
+those_from : (f : ℕ → Bool) (q n : ℕ) → q < n → those (λ i. f (q + i)) (n - q) ≡ those (λ i. f (suc q + i)) (n - suc q) * 2 + cond (f q) 1 0
 those_from f q n h =
     let m = n - suc q in
     let e : n - q ≡ suc m = omega arith in

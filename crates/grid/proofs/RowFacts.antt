@@ -1,18 +1,23 @@
 -- A row that was written, cell by cell or whole: what stands in it, and that nothing beside it changed.
-use Rattle.std.proofs.Common.{◌≡◌, ℕ, ◌+◌, ◌*◌, ◌<◌, ◌≤◌, ◌⊎◌, cond, eqb, List, length, get_or, replicate, set, ◌∙◌, inl, inr, ⊎_elim, arith, length-drop, length-take, rules}
+use Rattle.std.proofs.Common.{◌≡◌, ℕ, ◌+◌, ◌*◌, ◌<◌, ◌≤◌, ◌⊎◌, cond, eqb, List, length, get_or, set, ◌∙◌, inl, inr, ⊎_elim, arith, length-drop, length-take, rules}
 use Rattle.std.proofs.lemmas.Grind.{common_steps, get_or-set_at}
-use Rattle.std.proofs.lemmas.List.{places, length-replicate, get_or-set_other}
+use Rattle.std.proofs.lemmas.List.{places, get_or-set_other}
+use Rattle.std.proofs.lemmas.List.Edits.{length-paste}
 use Rattle.std.proofs.lemmas.List.FromFn.{length-map-range_with_len, get_or-map-range_with_len}
 use Rattle.std.proofs.lemmas.Bool.{cases_lt, cases_eq, eq-eqb, ne_eqb}
-use Rattle.grid.specs.Rows.{row, with_row, tabled}
-use Rattle.grid.proofs.Cells.{row_fits}
-use Rattle.grid.proofs.Reading.{with_row_length, with_row_inside, with_row_outside}
+use Rattle.grid.specs.Rows.{row, with_row, tabled, RowIs}
+use Rattle.grid.proofs.CellFacts.{row_fits, untouched}
 
--- Row t of n cells holds g 0, g 1, .., and every other cell is as it was; d is read past the end.
-pub record RowIs {X : Type 0} (n t : ℕ) (d : X) (g : ℕ → X) (old new : List X) : Type 0 where
-  pub same_length : length new ≡ length old
-  pub here : (j : ℕ) → j < n → get_or new (t * n + j) d ≡ g j
-  pub outside : (i : ℕ) → (i < t * n) ⊎ (t * n + n ≤ i) → get_or new i d ≡ get_or old i d
+-- what stands where, once a row is written
+module _ {X : Type 0} (xs ys : List X) (n r : ℕ) where
+  with_row_length : r * n + n ≤ length xs → n ≤ length ys → length (with_row xs n r ys) ≡ length xs
+  with_row_length = length-paste xs (r * n) ys n
+
+  with_row_inside : (j : ℕ) (d : X) → r * n + n ≤ length xs → n ≤ length ys → j < n → get_or (with_row xs n r ys) (r * n + j) d ≡ get_or ys j d
+  with_row_inside j d fits long h = grind (arith, places)
+
+  with_row_outside : (k : ℕ) (d : X) → r * n + n ≤ length xs → n ≤ length ys → (k < r * n) ⊎ (r * n + n ≤ k) → get_or (with_row xs n r ys) k d ≡ get_or xs k d
+  with_row_outside = untouched xs ys (r * n) n
 
 -- cells of another row are as they were
 pub other_row : {X : Type 0} {n t : ℕ} {d : X} {g : ℕ → X} {old new : List X} → RowIs n t d g old new → (r j : ℕ) → (r ≡ t → ⊥) → j < n → get_or new (r * n + j) d ≡ get_or old (r * n + j) d
@@ -28,7 +33,7 @@ row_same w h e = record { same_length = w.same_length; here = λ j l. w.here j l
 
 module _ {X : Type 0} (n t : ℕ) (d : X) (old : List X) (inside : t * n + n ≤ length old) where
   -- a row written from a list
-  written_row : (ys : List X) → n ≤ length ys → RowIs n t d (λ j. get_or ys j d) old (with_row old n t ys)
+  pub written_row : (ys : List X) → n ≤ length ys → RowIs n t d (λ j. get_or ys j d) old (with_row old n t ys)
   written_row ys long = record {
     same_length = with_row_length old ys n t inside long;
     here = λ j h. with_row_inside old ys n t j d inside long h;
@@ -38,9 +43,6 @@ module _ {X : Type 0} (n t : ℕ) (d : X) (old : List X) (inside : t * n + n ≤
   pub tabled_row : (g : ℕ → X) (new : List X) → new ≡ with_row old n t (tabled g n) → RowIs n t d g old new
   tabled_row g new e =
       rw e (row_same (written_row (tabled g n) (omega (arith, length-map-range_with_len g 0 n))) g (λ j h. get_or-map-range_with_len g 0 n j j d h (omega arith)))
-
-  pub filled_row : (v : X) (new : List X) → new ≡ with_row old n t (replicate n v) → RowIs n t d (λ j. v) old new
-  filled_row v new e = rw e (row_same (written_row (replicate n v) (omega (arith, length-replicate {A = X}))) (λ j. v) (λ j h. grind (arith, places, common_steps)))
 
   pub copied_row : (u : ℕ) (new : List X) → u * n + n ≤ length old → new ≡ with_row old n t (row old n u) → RowIs n t d (λ j. get_or old (u * n + j) d) old new
   copied_row u new from e =

@@ -6,7 +6,7 @@ use Rattle.std.proofs.lemmas.Bool.{cases_lt, cases_eq, false≢true}
 use Rattle.std.proofs.lemmas.Bool.Decides.{Decides-eqb, Decides-not, Decides-like, Decides-ltb, nat_tests}
 use Rattle.std.proofs.lemmas.Nat.Bits.{bit_at-lt, bit_at-suc, bit_at_or, bit_at_and, bit_at-zero, bit_at-pow_same, bit_at_above, same_from_bits}
 use Rattle.bitset.specs.Sets.{bit, Member, has, meets, within, those}
-use Rattle.bitset.proofs.Bits.{bit_pow}
+use Rattle.bitset.proofs.BitFacts.{bit_pow}
 
 -- a bit is 0 or 1
 pub cases_bit : (set q : ℕ) → (bit set q ≡ 0) ⊎ Member q set

@@ -1,7 +1,6 @@
 -- Flags taken eight at a time.
-use Rattle.std.proofs.Common.{◌≡◌, ℕ, zero, suc, ◌+◌, ◌-◌, ◌*◌, ◌/◌, ◌%◌, ◌^◌, ◌<◌, ◌≤◌, ◌∷◌, [], Bool, true, false, cond, ◌&&◌, ◌==◌, get_or, zero-add, List, length, replicate, take, drop, length-take, length-drop, refl, sym, ap, ap₂, subst, ◌∙◌, arith, pow_mono, pow-add, eqb-true}
+use Rattle.std.proofs.Common.{◌≡◌, ℕ, zero, suc, ◌+◌, ◌-◌, ◌*◌, ◌/◌, ◌%◌, ◌^◌, ◌<◌, ◌≤◌, ◌∷◌, [], Bool, true, false, cond, ◌&&◌, ◌==◌, get_or, zero-add, List, length, replicate, take, drop, length-take, length-drop, refl, sym, ap, ap₂, ◌∙◌, arith, pow_mono, pow-add, eqb-true}
 use Rattle.std.specs.Int.{w64, from_le_bytes}
-use Rattle.std.specs.Int.Bits.{or_shifted_r}
 use Rattle.std.proofs.lemmas.Grind.{or_after_shift, common_steps}
 use Rattle.std.proofs.lemmas.Bool.{and_parts}
 use Rattle.std.proofs.lemmas.List.{places}
@@ -9,16 +8,9 @@ use borrow.Rule.Slice.PartMut.{put_mid}
 use mir.Val.{bool_byte}
 use lib.Bits.{bit_or}
 use Rattle.bitset.specs.Sets.{those}
-use Rattle.bitset.proofs.Places.{those_same, those_below}
+use Rattle.bitset.proofs.PositionFacts.{those_last, those_same, those_below}
 
--- the number n stands above those below it
-those_last : (f : ℕ → Bool) (n : ℕ) → those f (suc n) ≡ cond (f n) (2 ^ n + those f n) (those f n)
-those_last f n =
-    let e : bit_or (those f n) (1 * 2 ^ n) ≡ 1 * 2 ^ n + those f n = or_shifted_r 1 n (those f n) (those_below f n) in
-    let one : 1 * 2 ^ n ≡ 2 ^ n = omega arith in
-    let d : bit_or (those f n) (2 ^ n) ≡ 2 ^ n + those f n = subst (λ (x : ℕ). bit_or (those f n) x ≡ x + those f n) one e in
-    ap (λ (x : ℕ). cond (f n) x (those f n)) d
-
+-- one choice on both sides: a place above, moved up by eight
 above : (b : Bool) (x y z t s : ℕ) → x ≡ y * 256 + z → t ≡ s * 256 → cond b (t + x) x ≡ cond b (s + y) y * 256 + z
 above true x y z t s e p = omega arith
 above false x y z t s e p = e

@@ -1,8 +1,8 @@
 use Rattle.std.proofs.Common.{◌≡◌, ℕ, ◌+◌, ◌*◌, ◌/◌, ◌%◌, ◌^◌, ◌∷◌, [], false, slice_index_or, add-zero, refl, sym, ap, ◌∙◌}
 use Rattle.std.specs.Int.{w64, from_le_bytes}
 use mir.Val.{bool_byte}
-use Rattle.causality.proofs.Sweeping.{eight_gathered}
-use Rattle.causality.proofs.boards.eight.Goals as goal
+use Rattle.bitset.proofs.EightFacts.{eight_gathered}
+use Rattle.bitset.proofs.eight.Goals as goal
 
 pub returns : goal.returns
 returns c =
