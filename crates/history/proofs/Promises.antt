@@ -50,8 +50,8 @@ outcomes_told V = Outcomes.outcomes_told V
 pub replies_as_long : {V : Type 0} (M : Payload V) (z : Size) (cs : List Call) (u : ℕ) → length ((run M z cs).told u) ≡ length ((run M z cs).log u)
 replies_as_long M z cs u = (said_run M z cs).as_long u
 
--- Two lists whose accepted calls are the same unit by unit lead to the same answers and to the same board, and so do both with one
--- call more.
+-- Two lists whose accepted calls are the same unit by unit lead to the same answers and to boards that stand alike, and so they do
+-- with one call more, the same for both.
 pub order_free : {V : Type 0} (M : Payload V) (z : Size) (cs ds : List Call) → SameByUnit (accepted M z cs) (accepted M z ds) → OrderFree M z cs ds
 order_free M z cs ds = OrderFree.order_free M z cs ds
 
@@ -59,7 +59,7 @@ order_free M z cs ds = OrderFree.order_free M z cs ds
 pub marks_ranged : {V : Type 0} (M : Payload V) (z : Size) (cs : List Call) → Ranged (happened M z cs) z
 marks_ranged M z cs = (Runs.sound_run M z cs).ranged
 
--- So are the marks of each list of calls that is a run.
+-- In each list of calls that is a run, the marks are made by units of the board.
 pub run_unit : (z : Size) (cs : List Call) → Run z cs → (u i : ℕ) → IsMark (events_in cs) u i → u < z.units
 run_unit z cs ok u i = Compare.run_unit z cs ok u i
 
@@ -101,15 +101,15 @@ pub by_calls : {V : Type 0} (M : Payload V) (z : Size) (P : History V → List C
     → (h : History V) (cs : List Call) → P h cs
 by_calls M z P none took turned h cs = Runs.by_calls M z P none took turned h cs
 
--- A run of a list with one call more.
+-- A list with one call more leads to what the call leaves after a run of the list.
 pub run_push : {V : Type 0} (M : Payload V) (z : Size) (cs : List Call) (c : Call) → run M z (cs ++ c ∷ []) ≡ after M z (run M z cs) c
 run_push M z cs c = Runs.run_push M z cs c
 
--- Where the entry of a unit stands that its log has grown by.
+-- A log that has grown by one entry has it at the place that was the length of the log.
 pub grown_here : {A : Type 0} (logs : ℕ → List A) (u : ℕ) (x : A) → at (grown logs u x) u (length (logs u)) ≡ Some x
 grown_here logs u x = Logs.grown_here logs u x
 
--- A function with another value at u has this value there, and its own elsewhere.
+-- Where f is put to be x at u, it is x there and itself elsewhere.
 pub put_cases : {A : Type 0} (f : ℕ → A) (u : ℕ) (x : A) (j : ℕ) → ((j ≡ u) × (put f u x j ≡ x)) ⊎ ((j ≡ u → ⊥) × (put f u x j ≡ f j))
 put_cases f u x j = Logs.put_cases f u x j
 
