@@ -10,35 +10,45 @@ use Rattle.measures.specs.Words.{Word}
 use Rattle.waypoint.specs.declared.Passages.{Passages}
 use Rattle.waypoint.specs.Waypoints.{passages, waypoint}
 
+-- every flow passes
+abbrev yes : Passages
+yes = passages true true
+
 module _ (n label : ℕ) where
   -- whether a word contains the waypoint
   abbrev has : Word → Bool
   has w = list_any (λ l. l == label) w
 
+  -- The test finds the label only where it is.
   contains_from_has : (w : Word) → has w ≡ true → Contains w label
   contains_from_has w t =
       let found = Any-from_list_any (λ l. l == label) w t in
       let is : found.1 ≡ label = eqb-true found.1 label found.4 in
       (found.0, found.2, subst (λ x. slice_index_or w found.0 x ≡ x) is found.3)
 
+  -- And it finds it wherever it is.
   has_from_contains : (w : Word) → Contains w label → has w ≡ true
   has_from_contains w c = list_any-from_Any (λ l. l == label) w (c.0, label, c.1, c.2, eq-eqb label label refl)
 
   -- The waypoint, once passed, stays so; a word without it leaves the value.
-  carried_passages : (v : Passages) (w : Word) → carried_from (waypoint n label) v w ≡ (if has w then passages true true else v)
+  carried_passages : (v : Passages) (w : Word)
+      → carried_from (waypoint n label) v w ≡ (if has w then yes else v)
   carried_passages v [] = refl
-  carried_passages v (l ∷ w) = by_test (l == label) (has w) (carried_passages v w) (carried_passages (passages true true) w)
+  carried_passages v (l ∷ w) =
+      by_test (l == label) (has w) (carried_passages v w) (carried_passages yes w)
     where
-      by_test : (here later : Bool) → carried_from (waypoint n label) v w ≡ (if later then passages true true else v)
-          → carried_from (waypoint n label) (passages true true) w ≡ (if later then passages true true else passages true true)
-          → carried_from (waypoint n label) (if here then passages true true else v) w ≡ (if here || later then passages true true else v)
+      by_test : (here later : Bool)
+          → carried_from (waypoint n label) v w ≡ (if later then yes else v)
+          → carried_from (waypoint n label) yes w ≡ (if later then yes else yes)
+          → carried_from (waypoint n label) (if here then yes else v) w ≡ (if here || later then yes else v)
       by_test true true kept passed = passed
       by_test true false kept passed = passed
       by_test false later kept passed = kept
 
-  -- An answer that is no at the start, yes once the waypoint is passed, and goes through joins, says whether a word contains it.
+  -- An answer that is no at the start, yes once the waypoint is passed, and goes through joins,
+  -- says whether a word contains it.
   pub answers_judge : (op : Bool → Bool → Bool) (answer : Passages → Bool)
-      → answer (passages false false) ≡ false → answer (passages true true) ≡ true
+      → answer (passages false false) ≡ false → answer yes ≡ true
       → ((a b : Passages) → answer ((waypoint n label).join a b) ≡ op (answer a) (answer b))
       → Judges op (waypoint n label) (λ _. ⊤) answer (λ w. Contains w label)
   answers_judge op answer not_yet passed joins = record {
@@ -46,7 +56,7 @@ module _ (n label : ℕ) where
     decides = λ l w _. decided (l ∷ w);
   }
     where
-      answer_is : (t : Bool) → answer (if t then passages true true else passages false false) ≡ t
+      answer_is : (t : Bool) → answer (if t then yes else passages false false) ≡ t
       answer_is true = passed
       answer_is false = not_yet
 

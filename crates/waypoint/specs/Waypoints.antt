@@ -8,8 +8,8 @@ use Rattle.waypoint.specs.declared.Passages.{Passages}
 abbrev pub passages : Bool → Bool → Passages
 passages some each = record { some = some; each = each }
 
--- The waypoint `label` among n labels: no flow has passed it before its first mark, each has once it has made that mark,
--- and of the flows that meet at a mark some passes it if one does, each if all do.
+-- The waypoint `label` among n labels: before its first mark no flow has passed it, a mark with that
+-- label passes it, and of the flows that meet at a mark some passes it if one does, each if all do.
 abbrev pub waypoint : ℕ → ℕ → Meaning Passages
 waypoint n label = record {
   labels = n;

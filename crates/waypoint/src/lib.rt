@@ -1,4 +1,5 @@
-// A judge of one's own: does a flow pass a waypoint, that is, has one of its marks a given label? docs/OWN-MEASURE.md goes through it.
+// A judge of one's own: does a flow pass a waypoint, that is, has one of its marks a given label?
+// docs/OWN-MEASURE.md goes through it. Stands on `measures`; its tests put it on a board.
 #![tactic(auto)]
 
 ghost use Rattle.std.specs.Prelude.{◌≡◌, ◌<◌, ◌≤◌, ◌↔◌, Contains, IsSome, IfSome, ⊤};
@@ -26,7 +27,8 @@ pub struct Waypoint {
 }
 
 impl Waypoint {
-    /// The waypoint `label` among `labels` labels; none unless these are at most 64, and it is one of them.
+    /// The waypoint `label` among `labels` labels, numbered from 0. None unless it is one of them,
+    /// and they are at most 64.
     pub fn new(labels: u8, label: u8) -> Option<Waypoint>
         ensures made { IsSome result ↔ ((label < labels) × (labels ≤ 64)) }
         ensures fields { IfSome result (λ w. (w.labels ≡ labels) × (w.label ≡ label)) }

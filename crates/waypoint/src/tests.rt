@@ -1,4 +1,5 @@
-// The waypoint on a board: what is told of the sound of the lost wake-up, and of a walk whose player waits first.
+// The waypoint on a board: the verdict on the sound of the lost wake-up, and of a walk whose player
+// waits first.
 use super::{Passages, Waypoint};
 use causality::{Board, Call, Event};
 use grid::Grid;
@@ -38,7 +39,8 @@ fn player_waits_first() -> [Call; 6] {
     ]
 }
 
-// The beacon is heard before the player waits, and each learns of the other's mark after its own: two flows end at the sound.
+// The beacon is heard before the player waits, and each learns of the other's mark after its own:
+// two flows end at the sound.
 fn lost_wake_up() -> [Call; 6] {
     [
         call(0, Event::Mark(BEACON)),
