@@ -1,7 +1,7 @@
 #!/usr/bin/env python3
 """Tests a program against a slow, literal Python program of the same job, on the example, on each
 fault with its place, on inputs around the greatest length, and on many random and damaged inputs:
-python3 check.py PROGRAM"""
+python3 bench/check.py PROGRAM"""
 
 import random
 import subprocess

@@ -1,5 +1,5 @@
 #!/bin/bash
-# Compares a program with the plain Rust program of the same job: bash compare.sh OURS
+# Compares a program with the plain Rust program of the same job: bash bench/compare.sh OURS
 #
 # Builds rust/walks.rs and generates the inputs into a temporary directory, checks that both
 # programs write the same bytes on each input and end with status 0, and prints for each input the
@@ -10,7 +10,7 @@
 set -euo pipefail
 
 if [ $# -ne 1 ] || [ ! -x "$1" ]; then
-    echo "usage: bash compare.sh OURS (a program that reads stdin and writes stdout)" >&2
+    echo "usage: bash bench/compare.sh OURS (a program that reads stdin and writes stdout)" >&2
     exit 2
 fi
 ours=$(realpath "$1")

@@ -1,3 +1,0 @@
-mod Chains
-mod Judgement
-mod TooLong
