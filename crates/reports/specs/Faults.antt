@@ -20,25 +20,25 @@ reason_number BytesAfterEnd = 28
 reason_number (Refused r) = board.number r
 
 -- the layer that meets it: the board, or the recording's own form
-abbrev pub reason_letter : Reason → List ℕ
-reason_letter NoByte = codes "R"
-reason_letter NoCommand = codes "R"
-reason_letter NoOperands = codes "R"
-reason_letter NoBoard = codes "R"
-reason_letter SecondBoard = codes "R"
-reason_letter BytesAfterEnd = codes "R"
-reason_letter (Refused r) = codes "B"
+abbrev pub reason_layer : Reason → List ℕ
+reason_layer NoByte = codes "R"
+reason_layer NoCommand = codes "R"
+reason_layer NoOperands = codes "R"
+reason_layer NoBoard = codes "R"
+reason_layer SecondBoard = codes "R"
+reason_layer BytesAfterEnd = codes "R"
+reason_layer (Refused r) = codes "B"
 
 -- a reason why a recording breaks off, met at a byte of the input
-abbrev pub broken : Reason → ℕ → RecordingFault
-broken reason place = record { reason = reason; place = place }
+abbrev pub fault_at : Reason → ℕ → RecordingFault
+fault_at reason place = record { reason = reason; place = place }
 
 -- The letter of the layer that meets each fault: input, pattern, relabelling, recording or board.
-abbrev pub letter : Fault → List ℕ
-letter TooLong = codes "I"
-letter (Pattern f) = codes "P"
-letter (Relabelling f) = codes "L"
-letter (Recording f) = reason_letter f.reason
+abbrev pub layer : Fault → List ℕ
+layer TooLong = codes "I"
+layer (Pattern f) = codes "P"
+layer (Relabelling f) = codes "L"
+layer (Recording f) = reason_layer f.reason
 
 -- The number of each fault.
 abbrev pub number : Fault → ℕ

@@ -25,13 +25,13 @@ use Rattle.reports.specs.declared.faults.Reason.TheVariants.{NoByte, NoCommand, 
 use Rattle.reports.specs.declared.faults.RecordingFault.{RecordingFault}
 use Rattle.reports.specs.declared.lines.MarkLine.{MarkLine}
 use Rattle.reports.specs.Commands.{first_command, calls_in}
-use Rattle.reports.specs.Faults.{broken}
-use Rattle.reports.specs.Recordings.{Told}
-use Rattle.reports.specs.Reports.{relabelling_at, recording_at, front_fault, judge_in, told_in}
+use Rattle.reports.specs.Faults.{fault_at}
+use Rattle.reports.specs.Recordings.{Transcript}
+use Rattle.reports.specs.Reports.{relabelling_at, recording_at, front_fault, judge_in, transcript_in}
 
 -- the size of the board that a recording makes
 abbrev pub size_in : List ℕ → Size
-size_in b = sized (judge_in b) (told_in b).units (told_in b).messages most_marks
+size_in b = sized (judge_in b) (transcript_in b).units (transcript_in b).messages most_marks
 
 -- a word of the recording's labels in the pattern's
 abbrev pub in_pattern : List ℕ → Word → Word
@@ -76,10 +76,10 @@ RefusedMaking b place e =
 abbrev pub AfterCalls : List ℕ → ℕ → Type 0
 AfterCalls b place =
     (n : ℕ) × (k : ℕ) × (rest : List ℕ) × (first_command (drop (recording_at b) b) ≡ Ok (commands.Make n k, rest)) × (make_refusal n k true ≡ None)
-    × (place ≡ recording_at b + 3 + 3 * length (told_in b).calls)
+    × (place ≡ recording_at b + 3 + 3 * length (transcript_in b).calls)
 
 -- a call that the board refuses after the calls that were read
-abbrev pub RefusedCall : List ℕ → Told → ℕ → Refusal → Type 0
+abbrev pub RefusedCall : List ℕ → Transcript → ℕ → Refusal → Type 0
 RefusedCall b t place e =
     let M = carrying (judge_in b) t.units in
     let z = sized (judge_in b) t.units t.messages most_marks in
@@ -99,46 +99,46 @@ Breaks b place NoBoard =
     (place ≡ recording_at b) × (c : Command) × (rest : List ℕ) × (first_command (drop place b) ≡ Ok (c, rest)) × ((n k : ℕ) → c ≡ commands.Make n k → ⊥)
 Breaks b place SecondBoard = AfterCalls b place × (n : ℕ) × (k : ℕ) × (rest : List ℕ) × (first_command (drop place b) ≡ Ok (commands.Make n k, rest))
 Breaks b place BytesAfterEnd = (p : ℕ) × (place ≡ suc p) × AfterCalls b p × (x : ℕ) × (rest : List ℕ) × (first_command (drop p b) ≡ Ok (commands.End, x ∷ rest))
-Breaks b place (Refused e) = RefusedMaking b place e ⊎ (AfterCalls b place × RefusedCall b (told_in b) place e)
+Breaks b place (Refused e) = RefusedMaking b place e ⊎ (AfterCalls b place × RefusedCall b (transcript_in b) place e)
 
 -- What is true of a report on an input whose pattern and relabelling are accepted.
 pub record ReportTrue (b : List ℕ) : Type 0 where
   -- the board has the size that the making asks for
   pub sized : (n k : ℕ) (rest : List ℕ) → first_command (drop (recording_at b) b) ≡ Ok (commands.Make n k, rest) → make_refusal n k true ≡ None
-      → ((told_in b).units ≡ n) × ((told_in b).messages ≡ k)
+      → ((transcript_in b).units ≡ n) × ((transcript_in b).messages ≡ k)
   -- the calls read, up to the end or to where the recording breaks off, are what a real run could do
-  pub run : Run (size_in b) (told_in b).calls
+  pub run : Run (size_in b) (transcript_in b).calls
   -- and a call that the board refuses, there, is none that could come next
-  pub refused : (e : Refusal) (place : ℕ) → (told_in b).end ≡ Err (broken (Refused e) place) → (c : Call) (cs : List Call) → calls_in (drop place b) ≡ c ∷ cs
-      → Possible (size_in b) (by_unit (told_in b).calls) c.unit c.act → ⊥
+  pub refused : (e : Refusal) (place : ℕ) → (transcript_in b).end ≡ Err (fault_at (Refused e) place) → (c : Call) (cs : List Call) → calls_in (drop place b) ≡ c ∷ cs
+      → Possible (size_in b) (by_unit (transcript_in b).calls) c.unit c.act → ⊥
   -- where it ends well, they are all calls after the command that makes the board
-  pub all_read : (left : ℕ) → (told_in b).end ≡ Ok left → (told_in b).calls ≡ calls_in (drop 3 (drop (recording_at b) b))
+  pub all_read : (left : ℕ) → (transcript_in b).end ≡ Ok left → (transcript_in b).calls ≡ calls_in (drop 3 (drop (recording_at b) b))
   -- and after them stands an end, and nothing more
-  pub ended : (left : ℕ) → (told_in b).end ≡ Ok left → (p : ℕ) × AfterCalls b p × (first_command (drop p b) ≡ Ok (commands.End, []))
+  pub ended : (left : ℕ) → (transcript_in b).end ≡ Ok left → (p : ℕ) × AfterCalls b p × (first_command (drop p b) ≡ Ok (commands.End, []))
   -- there is a line for each mark read, and no other, in the order of the recording
-  pub lines_counted : length (told_in b).lines ≡ marks_among (told_in b).calls
+  pub lines_counted : length (transcript_in b).lines ≡ marks_among (transcript_in b).calls
   -- and it tells of the longest flows of the calls read up to that mark
-  pub each_line : (before after : List Call) (u l : ℕ) → (told_in b).calls ≡ before ++ call u (mark l) ∷ after
-      → (line : MarkLine) × (slice_get (told_in b).lines (marks_among before) ≡ Some line) × Tells b (events_in (before ++ call u (mark l) ∷ [])) u (length (by_unit before u)) line
+  pub each_line : (before after : List Call) (u l : ℕ) → (transcript_in b).calls ≡ before ++ call u (mark l) ∷ after
+      → (line : MarkLine) × (slice_get (transcript_in b).lines (marks_among before) ≡ Some line) × Tells b (events_in (before ++ call u (mark l) ∷ [])) u (length (by_unit before u)) line
   -- at the end, the messages that were sent and not received are counted
-  pub left_counted : (left : ℕ) → (told_in b).end ≡ Ok left
-      → HowMany (λ p. Sent (events_in (told_in b).calls) p × (Received (events_in (told_in b).calls) p → ⊥)) left
+  pub left_counted : (left : ℕ) → (transcript_in b).end ≡ Ok left
+      → HowMany (λ p. Sent (events_in (transcript_in b).calls) p × (Received (events_in (transcript_in b).calls) p → ⊥)) left
   -- where the recording breaks off, its lines are exactly those of its part before the break
-  pub part : (f : RecordingFault) → (told_in b).end ≡ Err f
-      → (front_fault (take f.place b) ≡ None) × SameFront b (take f.place b) × ((told_in (take f.place b)).calls ≡ (told_in b).calls) × ((told_in (take f.place b)).lines ≡ (told_in b).lines)
+  pub part : (f : RecordingFault) → (transcript_in b).end ≡ Err f
+      → (front_fault (take f.place b) ≡ None) × SameFront b (take f.place b) × ((transcript_in (take f.place b)).calls ≡ (transcript_in b).calls) × ((transcript_in (take f.place b)).lines ≡ (transcript_in b).lines)
   -- the calls read are all that stand before the break
-  pub read_to : (f : RecordingFault) → (told_in b).end ≡ Err f → (told_in b).calls ≡ calls_in (drop (recording_at b + 3) (take f.place b))
+  pub read_to : (f : RecordingFault) → (transcript_in b).end ≡ Err f → (transcript_in b).calls ≡ calls_in (drop (recording_at b + 3) (take f.place b))
   -- and what stands there is a reason to break off
-  pub broke : (f : RecordingFault) → (told_in b).end ≡ Err f → Breaks b f.place f.reason
+  pub broke : (f : RecordingFault) → (transcript_in b).end ≡ Err f → Breaks b f.place f.reason
 
 -- What two reports have in common whose recordings have the same accepted calls unit by unit, whatever the numbers of units and of messages of
 -- their boards: each unit's lines, in their order; and the last line, if both end well.
 pub record ReportsAgree (b d : List ℕ) : Type 0 where
-  pub lines : (u : ℕ) → lines_of u (told_in b).lines ≡ lines_of u (told_in d).lines
-  pub left : (x y : ℕ) → (told_in b).end ≡ Ok x → (told_in d).end ≡ Ok y → x ≡ y
+  pub lines : (u : ℕ) → lines_of u (transcript_in b).lines ≡ lines_of u (transcript_in d).lines
+  pub left : (x y : ℕ) → (transcript_in b).end ≡ Ok x → (transcript_in d).end ≡ Ok y → x ≡ y
 
 -- The law of reports, for every input.
 pub record LawOfReports : Type 0 where
   pub true_of_each : (b : List ℕ) → front_fault b ≡ None → ReportTrue b
   pub agree : (b d : List ℕ) → front_fault b ≡ None → front_fault d ≡ None → SameFront b d
-      → SameByUnit (told_in b).calls (told_in d).calls → ReportsAgree b d
+      → SameByUnit (transcript_in b).calls (transcript_in d).calls → ReportsAgree b d

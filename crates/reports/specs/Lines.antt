@@ -4,7 +4,7 @@ use Rattle.text.specs.Hex.{hex_word}
 use Rattle.text.specs.Lines.{line_of, bit}
 use Rattle.reports.specs.declared.faults.Fault.{Fault}
 use Rattle.reports.specs.declared.lines.MarkLine.{MarkLine}
-use Rattle.reports.specs.Faults.{letter, number, place}
+use Rattle.reports.specs.Faults.{layer, number, place}
 
 -- What is told of a mark: its unit, its own clock, the units of its immediate predecessors as a number, the set of states as 16 hexadecimal
 -- digits, and the two verdicts.
@@ -24,7 +24,7 @@ left_text count = codes "left " ++ decimal count
 
 -- what is told of a fault: its layer, number and place
 abbrev pub fault_text : Fault → List ℕ
-fault_text f = codes "fault " ++ letter f ++ codes " " ++ decimal (number f) ++ codes " " ++ decimal (place f)
+fault_text f = codes "fault " ++ layer f ++ codes " " ++ decimal (number f) ++ codes " " ++ decimal (place f)
 
 -- the names of what the lines of marks tell
 abbrev pub header : List ℕ

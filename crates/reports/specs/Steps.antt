@@ -6,26 +6,26 @@ use Rattle.reports.specs.declared.faults.Reason.{Reason}
 use Rattle.reports.specs.declared.faults.Reason.TheVariants.{Refused}
 use Rattle.reports.specs.declared.faults.RecordingFault.{RecordingFault}
 use Rattle.reports.specs.declared.lines.MarkLine.{MarkLine}
-use Rattle.reports.specs.Faults.{broken}
+use Rattle.reports.specs.Faults.{fault_at}
 use Rattle.reports.specs.Lines.{mark_lines}
-use Rattle.reports.specs.Recordings.{Told}
+use Rattle.reports.specs.Recordings.{Transcript}
 
 -- what was read or done, or why the recording breaks off at a byte of the input
-abbrev pub placed_at : {T : Type 0} → Result T Reason → ℕ → Result T RecordingFault
-placed_at (Ok x) place = Ok x
-placed_at (Err reason) place = Err (broken reason place)
+abbrev pub result_with_place : {T : Type 0} → Result T Reason → ℕ → Result T RecordingFault
+result_with_place (Ok x) place = Ok x
+result_with_place (Err reason) place = Err (fault_at reason place)
 
 -- what a board answers, or its refusal as the reason why a recording breaks off
-abbrev pub refused_as : {T : Type 0} → Result T Refusal → Result T Reason
-refused_as (Ok x) = Ok x
-refused_as (Err e) = Err (Refused e)
+abbrev pub result_with_reason : {T : Type 0} → Result T Refusal → Result T Reason
+result_with_reason (Ok x) = Ok x
+result_with_reason (Err e) = Err (Refused e)
 
 -- The line that is told of the answer to a call of unit u, or why the recording breaks off there.
-abbrev pub shown : (ℕ → Bool) → (ℕ → Bool) → ℕ → Result (Answer ℕ) Refusal → Result (Option MarkLine) Reason
-shown some all u (Ok (own_clock clock)) = Ok None
-shown some all u (Ok (marked clock predecessors v)) = Ok (Some (record { unit = u; clock = clock; predecessors = predecessors; states = v; some = some v; all = all v }))
-shown some all u (Err e) = Err (Refused e)
+abbrev pub answer_line : (ℕ → Bool) → (ℕ → Bool) → ℕ → Result (Answer ℕ) Refusal → Result (Option MarkLine) Reason
+answer_line some all u (Ok (own_clock clock)) = Ok None
+answer_line some all u (Ok (marked clock predecessors v)) = Ok (Some (record { unit = u; clock = clock; predecessors = predecessors; states = v; some = some v; all = all v }))
+answer_line some all u (Err e) = Err (Refused e)
 
 -- The lines of t are appended to the old text, and the result is t's end.
-abbrev pub Wrote : List ℕ → List ℕ → Told → Result ℕ RecordingFault → Type 0
+abbrev pub Wrote : List ℕ → List ℕ → Transcript → Result ℕ RecordingFault → Type 0
 Wrote old new t result = (new ≡ old ++ mark_lines t.lines) × (result ≡ t.end)

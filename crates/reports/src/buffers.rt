@@ -50,7 +50,7 @@ fn put_pair(bytes: &mut [u8], at: usize, pair: u64) -> usize
 
 // Puts a number below 100 in decimal.
 #[inline(always)]
-#[tactic(auto, using(std::proofs::lemmas::Fmt::decimal_digit, crate::proofs::Pieces::decimal_two))]
+#[tactic(auto, using(std::proofs::lemmas::Fmt::decimal_digit, crate::proofs::DecimalFacts::decimal_two))]
 fn put_small(bytes: &mut [u8], at: usize, n: u64) -> usize
     requires { (n < 100) × (at + length (decimal n) ≤ length bytes.old) }
     ensures text { take result bytes.new ≡ take at bytes.old ++ decimal n }

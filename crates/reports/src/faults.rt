@@ -1,6 +1,6 @@
 // The faults that end a report.
 ghost use Rattle.std.specs.Prelude.{◌≡◌, [], ◌∷◌};
-ghost use Rattle.reports.specs.Faults.{letter, number, place};
+ghost use Rattle.reports.specs.Faults.{layer, number, place};
 
 use history::Refusal;
 use text::MOST_BYTES;
@@ -70,8 +70,8 @@ pub(crate) enum Fault {
 
 impl Fault {
     // The letter of the layer that meets the fault: input, pattern, relabelling, recording or board.
-    pub(crate) fn letter(self) -> u8
-        ensures { letter self ≡ result ∷ [] }
+    pub(crate) fn layer(self) -> u8
+        ensures { layer self ≡ result ∷ [] }
     {
         match self {
             Fault::TooLong => b'I',

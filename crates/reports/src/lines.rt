@@ -105,7 +105,7 @@ fn put_fault(bytes: &mut [u8], at: usize, fault: Fault) -> usize
     ensures short { result ≤ at + MOST_LINE }
 {
     let at = put_text(bytes, at, b"fault ");
-    let at = put_byte(bytes, at, fault.letter());
+    let at = put_byte(bytes, at, fault.layer());
     let at = put_byte(bytes, at, b' ');
     let at = put_decimal(bytes, at, u64::from(fault.number()));
     let at = put_byte(bytes, at, b' ');
@@ -123,7 +123,7 @@ fn make_ready(bytes: &mut Vec<u8>, len: usize)
 {
     if bytes.len() - len < MOST_LINE {
         let end = bytes.len().saturating_add(STEP).min(bytes.capacity());
-        bytes.resize(end, 0).ok();
+        bytes.resize(end, 0).unwrap();
     }
 }
 

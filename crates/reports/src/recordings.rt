@@ -6,8 +6,8 @@ ghost use Rattle.causality.specs.Boards.{Shows, travelling};
 ghost use Rattle.measures.specs.Worths.{load};
 ghost use Rattle.causality.specs.Calls.{Obeys, lent, has_room};
 ghost use Rattle.causality.specs.Handing.{handed};
-ghost use Rattle.reports.specs.Recordings.{closed, told_on, told};
-ghost use Rattle.reports.specs.Steps.{placed_at, refused_as, shown, Wrote};
+ghost use Rattle.reports.specs.Recordings.{end_after_calls, transcript_on, transcript};
+ghost use Rattle.reports.specs.Steps.{result_with_place, result_with_reason, answer_line, Wrote};
 ghost use Rattle.reports.specs.declared.commands.Command.TheVariants.{End};
 
 use super::commands::{Command, first_command};
@@ -36,15 +36,15 @@ fn line_of_mark(unit: usize, told: JudgedMark<u64>) -> MarkLine
 }
 
 // What was read or done, or why the recording breaks off at a byte of the input.
-fn placed<T>(told: Result<T, Reason>, place: usize) -> Result<T, RecordingFault>
-    ensures { result ≡ placed_at told place }
+fn with_place<T>(told: Result<T, Reason>, place: usize) -> Result<T, RecordingFault>
+    ensures { result ≡ result_with_place told place }
 {
     told.map_err(|reason| RecordingFault { reason, place })
 }
 
 // What a board answers, or its refusal as the reason why the recording breaks off.
-fn answered<T>(told: Result<T, Refusal>) -> Result<T, Reason>
-    ensures { result ≡ refused_as told }
+fn with_reason<T>(told: Result<T, Refusal>) -> Result<T, Reason>
+    ensures { result ≡ result_with_reason told }
 {
     Ok(told?)
 }
@@ -58,7 +58,7 @@ fn hand<J: Judge<Value = u64>>(
     posts: &mut [Post],
     call: Call,
 ) -> Result<Option<MarkLine>, Reason>
-    ensures { (answer : Result (Answer ℕ) ghost_refusal) × Obeys (load (J.Measure.meaning board.now.payload.measure)) board.now.units board.now.messages (handed call) (lent clocks.old flags.old values.old posts.old) (lent clocks.new flags.new values.new posts.new) answer × (result ≡ shown (J.Judge.some_of board.now.payload.measure) (J.Judge.all_of board.now.payload.measure) call.unit answer) }
+    ensures { (answer : Result (Answer ℕ) ghost_refusal) × Obeys (load (J.Measure.meaning board.now.payload.measure)) board.now.units board.now.messages (handed call) (lent clocks.old flags.old values.old posts.old) (lent clocks.new flags.new values.new posts.new) answer × (result ≡ answer_line (J.Judge.some_of board.now.payload.measure) (J.Judge.all_of board.now.payload.measure) call.unit answer) }
 {
     match call.event {
         Event::Send(message) => {
@@ -88,7 +88,7 @@ fn close<J: Judge<Value = u64>>(
 ) -> Result<usize, RecordingFault>
     requires room { has_room board.now.units board.now.messages (lent clocks.now flags.now values.now posts.now) ≡ true }
     requires place { place + 1 < 2 ^ 64 }
-    ensures { (s : State ℕ) → Shows (J.Measure.meaning board.now.payload.measure).start board.now.units board.now.messages (lent clocks.now flags.now values.now posts.now) s → result ≡ closed (travelling s.posts board.now.messages) place (Ok (End, after.now)) }
+    ensures { (s : State ℕ) → Shows (J.Measure.meaning board.now.payload.measure).start board.now.units board.now.messages (lent clocks.now flags.now values.now posts.now) s → result ≡ end_after_calls (travelling s.posts board.now.messages) place (Ok (End, after.now)) }
 {
     if !after.is_empty() {
         return Err(RecordingFault {
@@ -97,7 +97,7 @@ fn close<J: Judge<Value = u64>>(
         });
     }
     let left = board.left(clocks, flags, values, posts);
-    placed(answered(left), place)
+    with_place(with_reason(left), place)
 }
 
 // Reads the commands from a byte of the input on, and hands the calls to a board, up to the end or to where the recording breaks off. A mark's line
@@ -115,18 +115,18 @@ fn follow<J: Judge<Value = u64>>(
     requires room { has_room board.now.units board.now.messages (lent clocks.old flags.old values.old posts.old) ≡ true }
     requires places { from + length bytes.now < 2 ^ 64 }
     requires space { length page.old.text + 28 * length bytes.now ≤ page.old.room }
-    ensures tells { (s : State ℕ) → Shows (J.Measure.meaning board.now.payload.measure).start board.now.units board.now.messages (lent clocks.old flags.old values.old posts.old) s → Wrote page.old.text page.new.text (told_on (J.Measure.meaning board.now.payload.measure) (J.Judge.some_of board.now.payload.measure) (J.Judge.all_of board.now.payload.measure) board.now.units board.now.messages s from bytes.now) result }
+    ensures tells { (s : State ℕ) → Shows (J.Measure.meaning board.now.payload.measure).start board.now.units board.now.messages (lent clocks.old flags.old values.old posts.old) s → Wrote page.old.text page.new.text (transcript_on (J.Measure.meaning board.now.payload.measure) (J.Judge.some_of board.now.payload.measure) (J.Judge.all_of board.now.payload.measure) board.now.units board.now.messages s from bytes.now) result }
     ensures long { length page.new.text ≤ length page.old.text + 28 * length bytes.now }
     ensures room { page.old.room ≤ page.new.room }
 {
     let mut rest = bytes;
     loop {
         let place = from + (bytes.len() - rest.len());
-        let (command, after) = placed(first_command(rest), place)?;
+        let (command, after) = with_place(first_command(rest), place)?;
         match command {
             Command::Call(call) => {
                 let told = hand(board, clocks, flags, values, posts, call);
-                if let Some(line) = placed(told, place)? {
+                if let Some(line) = with_place(told, place)? {
                     push_mark(page, line);
                 }
             }
@@ -144,7 +144,7 @@ fn follow<J: Judge<Value = u64>>(
 
 // Reads a recording from a byte of the input on: its first command makes the board, under the judge. Writes the lines of its marks, and answers
 // how many messages are left on their way.
-pub(crate) fn tell<J: Judge<Value = u64> + Drop>(
+pub(crate) fn transcribe<J: Judge<Value = u64> + Drop>(
     page: &mut Page,
     judge: J,
     bytes: &[u8],
@@ -152,11 +152,11 @@ pub(crate) fn tell<J: Judge<Value = u64> + Drop>(
 ) -> Result<usize, RecordingFault>
     requires places { place + length bytes.now < 2 ^ 64 }
     requires space { length page.old.text + 28 * length bytes.now ≤ page.old.room }
-    ensures tells { Wrote page.old.text page.new.text (told (J.Measure.meaning judge) (J.Judge.some_of judge) (J.Judge.all_of judge) place bytes.now) result }
+    ensures tells { Wrote page.old.text page.new.text (transcript (J.Measure.meaning judge) (J.Judge.some_of judge) (J.Judge.all_of judge) place bytes.now) result }
     ensures long { length page.new.text ≤ length page.old.text + 28 * length bytes.now }
     ensures room { page.old.room ≤ page.new.room }
 {
-    let (command, rest) = placed(first_command(bytes), place)?;
+    let (command, rest) = with_place(first_command(bytes), place)?;
     let Command::Make(units, messages) = command else {
         let reason = Reason::NoBoard;
         return Err(RecordingFault { reason, place });
@@ -179,7 +179,7 @@ pub(crate) fn tell<J: Judge<Value = u64> + Drop>(
         &mut values,
         &mut posts,
     );
-    let board = placed(answered(made), place)?;
+    let board = with_place(with_reason(made), place)?;
     follow(
         page,
         &board,

@@ -7,7 +7,7 @@ ghost use Rattle.text.specs.Inputs.{most_bytes};
 
 use super::faults::Fault;
 use super::lines::{MOST_LINE, Page, push_fault, push_header, push_left};
-use super::recordings::tell;
+use super::recordings::transcribe;
 use measures::{Judge, Measure, Pattern, Relabelling};
 use std::alloc::{AllocError, Global};
 use std::io;
@@ -40,7 +40,7 @@ fn write(page: &mut Page, input: &[u8]) -> Result<usize, Fault>
 {
     let (judge, from) = read(input)?;
     push_header(page);
-    Ok(tell(page, judge, &input[from..], from)?)
+    Ok(transcribe(page, judge, &input[from..], from)?)
 }
 
 // The report on an input. It fails only for want of memory.

@@ -2,7 +2,7 @@ use Rattle.std.proofs.Common.{◌≡◌, ℕ, ◌+◌, ◌-◌, ◌*◌, ◌≤�
 use Rattle.history.specs.Board.{State}
 use Rattle.causality.specs.Boards.{Shows}
 use Rattle.causality.specs.Calls.{lent, has_room}
-use Rattle.reports.proofs.Walking.{Reached}
+use Rattle.reports.proofs.StepFacts.{Reached}
 use Rattle.reports.proofs.recordings.follow.Given as goal
 
 -- the calls so far are handed over, their lines are written, and the rest is what they leave

@@ -1,7 +1,7 @@
 use Rattle.std.proofs.Common.{rules}
 use Rattle.std.proofs.lemmas.Result.{on_ok_weaker}
 use Rattle.reports.specs.Reports.{report_on}
-use Rattle.reports.proofs.TooLong.{too_long}
+use Rattle.reports.proofs.TooLongFacts.{too_long}
 use Rattle.text.proofs.Answered.{answered}
 use Rattle.reports.proofs.reports.answer.Goals as goal
 

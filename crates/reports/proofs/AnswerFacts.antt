@@ -15,7 +15,7 @@ use Rattle.measures.specs.Measures.{Meaning}
 use Rattle.reports.specs.declared.faults.Reason.{Reason}
 use Rattle.reports.specs.declared.faults.Reason.TheVariants.{Refused}
 use Rattle.reports.specs.declared.lines.MarkLine.{MarkLine}
-use Rattle.reports.specs.Steps.{shown}
+use Rattle.reports.specs.Steps.{answer_line}
 
 -- a send or a receipt has no line
 abbrev pub clock_line : Result ℕ Refusal → Result (Option MarkLine) Reason
@@ -28,32 +28,32 @@ judged_line u (Ok r) = Ok (Some (record { unit = u; clock = r.mark.clock; predec
 judged_line u (Err e) = Err (Refused e)
 
 module _ (some all : ℕ → Bool) (u : ℕ) where
-  clock_shown : (r : Result ℕ Refusal) → clock_line r ≡ shown some all u (clock_told r)
-  clock_shown (Ok own) = refl
-  clock_shown (Err e) = refl
+  clock_line-is : (r : Result ℕ Refusal) → clock_line r ≡ answer_line some all u (clock_told r)
+  clock_line-is (Ok own) = refl
+  clock_line-is (Err e) = refl
 
   -- what a judge says of a mark is what its line tells
-  abbrev pub Said : Result (JudgedMark ℕ) Refusal → Type 0
-  Said (Ok r) = (r.verdict.some ≡ some r.mark.value) × (r.verdict.all ≡ all r.mark.value)
-  Said (Err e) = Unit {0}
+  abbrev pub VerdictIs : Result (JudgedMark ℕ) Refusal → Type 0
+  VerdictIs (Ok r) = (r.verdict.some ≡ some r.mark.value) × (r.verdict.all ≡ all r.mark.value)
+  VerdictIs (Err e) = Unit {0}
 
-  judged_shown : (r : Result (JudgedMark ℕ) Refusal) → Said r → judged_line u r ≡ shown some all u (judged_told r)
-  judged_shown (Ok r) (s, a) =
+  judged_line-is : (r : Result (JudgedMark ℕ) Refusal) → VerdictIs r → judged_line u r ≡ answer_line some all u (judged_told r)
+  judged_line-is (Ok r) (s, a) =
       ap (λ (x : Bool). Ok (Some (record { unit = u; clock = r.mark.clock; predecessors = r.mark.predecessors; states = r.mark.value; some = x; all = r.verdict.all }))) s
       ∙ ap (λ (x : Bool). Ok (Some (record { unit = u; clock = r.mark.clock; predecessors = r.mark.predecessors; states = r.mark.value; some = some r.mark.value; all = x }))) a
-  judged_shown (Err e) s = refl
+  judged_line-is (Err e) s = refl
 
 -- a call was answered by the rules, and told so
-abbrev pub Handed : Meaning ℕ → ℕ → ℕ → (ℕ → Bool) → (ℕ → Bool) → Memory ℕ → Memory ℕ → calls.Call → Result (Option MarkLine) Reason → Type 0
-Handed m n k some all old new c result = (x : Result (Answer ℕ) Refusal) × Obeys (load m) n k (handed c) old new x × (result ≡ shown some all c.unit x)
+abbrev pub AnswersCall : Meaning ℕ → ℕ → ℕ → (ℕ → Bool) → (ℕ → Bool) → Memory ℕ → Memory ℕ → calls.Call → Result (Option MarkLine) Reason → Type 0
+AnswersCall m n k some all old new c result = (x : Result (Answer ℕ) Refusal) × Obeys (load m) n k (handed c) old new x × (result ≡ answer_line some all c.unit x)
 
 module _ (m : Meaning ℕ) {n k : ℕ} (some all : ℕ → Bool) {old new : Memory ℕ} (c : calls.Call) {e : Event} (is : c.event ≡ e) {result : Result (Option MarkLine) Reason} where
-  answered_so : (x : Result (Answer ℕ) Refusal) → Obeys (load m) n k (call c.unit (event e)) old new x → result ≡ shown some all c.unit x → Handed m n k some all old new c result
-  answered_so x obeys said = (x, subst (λ (f : Event). Obeys (load m) n k (call c.unit (event f)) old new x) (sym is) obeys, said)
+  call_answers : (x : Result (Answer ℕ) Refusal) → Obeys (load m) n k (call c.unit (event e)) old new x → result ≡ answer_line some all c.unit x → AnswersCall m n k some all old new c result
+  call_answers x obeys said = (x, subst (λ (f : Event). Obeys (load m) n k (call c.unit (event f)) old new x) (sym is) obeys, said)
 
-  pub handed_clock : (r : Result ℕ Refusal) → Obeys (load m) n k (call c.unit (event e)) old new (clock_told r) → result ≡ clock_line r → Handed m n k some all old new c result
-  handed_clock r obeys told = answered_so (clock_told r) obeys (told ∙ clock_shown some all c.unit r)
+  pub clock_answers : (r : Result ℕ Refusal) → Obeys (load m) n k (call c.unit (event e)) old new (clock_told r) → result ≡ clock_line r → AnswersCall m n k some all old new c result
+  clock_answers r obeys told = call_answers (clock_told r) obeys (told ∙ clock_line-is some all c.unit r)
 
-  pub handed_mark : (r : Result (JudgedMark ℕ) Refusal) → Obeys (load m) n k (call c.unit (event e)) old new (judged_told r) → Said some all c.unit r → result ≡ judged_line c.unit r
-      → Handed m n k some all old new c result
-  handed_mark r obeys says told = answered_so (judged_told r) obeys (told ∙ judged_shown some all c.unit r says)
+  pub mark_answers : (r : Result (JudgedMark ℕ) Refusal) → Obeys (load m) n k (call c.unit (event e)) old new (judged_told r) → VerdictIs some all c.unit r → result ≡ judged_line c.unit r
+      → AnswersCall m n k some all old new c result
+  mark_answers r obeys says told = call_answers (judged_told r) obeys (told ∙ judged_line-is some all c.unit r says)

@@ -14,7 +14,7 @@ use Rattle.reports.specs.declared.faults.Reason.{Reason}
 use Rattle.reports.specs.declared.faults.Reason.TheVariants.{NoBoard, Refused}
 use Rattle.reports.specs.declared.lines.MarkLine.{MarkLine}
 use Rattle.reports.specs.Commands.{first_command}
-use Rattle.reports.specs.Recordings.{before_refusal, line, lines, told_nothing, told_of_board, told_on, told_from, told}
+use Rattle.reports.specs.Recordings.{before_refusal, line, lines, empty_transcript, transcript_of_board, transcript_on, transcript_from, transcript}
 
 module _ {V : Type 0} (M : Payload V) (z : Size) where
   -- the calls before the first refusal
@@ -59,23 +59,23 @@ module _ (m : Meaning ℕ) (some all : ℕ → Bool) where
       (λ h c cs x e same. rw e refl)
 
   -- a recording tells nothing; or its first command makes a board, on which the rest is told
-  abbrev pub ToldCases : ℕ → List ℕ → Type 0
-  ToldCases place bytes =
-      ((reason : Reason) × (told m some all place bytes ≡ told_nothing m some all reason place))
+  abbrev pub TranscriptCases : ℕ → List ℕ → Type 0
+  TranscriptCases place bytes =
+      ((reason : Reason) × (transcript m some all place bytes ≡ empty_transcript m some all reason place))
       ⊎ ((n k : ℕ) × (rest : List ℕ) × (first_command bytes ≡ Ok (commands.Make n k, rest)) × (make_refusal n k true ≡ None)
-      × (told m some all place bytes ≡ told_on m some all n k (new_state (carrying m n)) (place + 3) rest))
+      × (transcript m some all place bytes ≡ transcript_on m some all n k (new_state (carrying m n)) (place + 3) rest))
 
   -- Each recording does the one or the other.
-  pub told_cases : (place : ℕ) (bytes : List ℕ) → ToldCases place bytes
-  told_cases place bytes = from (first_command bytes) refl
+  pub transcript_cases : (place : ℕ) (bytes : List ℕ) → TranscriptCases place bytes
+  transcript_cases place bytes = from (first_command bytes) refl
     where
       made : (n k : ℕ) (rest : List ℕ) → first_command bytes ≡ Ok (commands.Make n k, rest) → (o : Option Refusal) → make_refusal n k true ≡ o
-          → told m some all place bytes ≡ told_of_board m some all n k place rest o → ToldCases place bytes
+          → transcript m some all place bytes ≡ transcript_of_board m some all n k place rest o → TranscriptCases place bytes
       made n k rest e (Some x) r t = inl (Refused x, t)
       made n k rest e None r t = inr (n, k, rest, e, r, t)
 
-      from : (r : Result (Command × List ℕ) Reason) → first_command bytes ≡ r → ToldCases place bytes
-      from (Err reason) e = inl (reason, ap (told_from m some all place) e)
-      from (Ok (commands.Make n k, rest)) e = made n k rest e (make_refusal n k true) refl (ap (told_from m some all place) e)
-      from (Ok (commands.Call c, rest)) e = inl (NoBoard, ap (told_from m some all place) e)
-      from (Ok (commands.End, rest)) e = inl (NoBoard, ap (told_from m some all place) e)
+      from : (r : Result (Command × List ℕ) Reason) → first_command bytes ≡ r → TranscriptCases place bytes
+      from (Err reason) e = inl (reason, ap (transcript_from m some all place) e)
+      from (Ok (commands.Make n k, rest)) e = made n k rest e (make_refusal n k true) refl (ap (transcript_from m some all place) e)
+      from (Ok (commands.Call c, rest)) e = inl (NoBoard, ap (transcript_from m some all place) e)
+      from (Ok (commands.End, rest)) e = inl (NoBoard, ap (transcript_from m some all place) e)

@@ -67,11 +67,11 @@ module _ {V : Type 0} (m : Meaning V) (valued : MarksValued m) (limit n k n' k' 
   events = ap at logs
 
   -- the answers that were told to a unit
-  abbrev told : ℕ → List (Answer V)
-  told u = map (λ r. r.answer) ((run M z cs).told u)
+  abbrev answers : ℕ → List (Answer V)
+  answers u = map (λ r. r.answer) ((run M z cs).told u)
 
-  abbrev told' : ℕ → List (Answer V)
-  told' u = map (λ r. r.answer) ((run M' z' ds).told u)
+  abbrev answers' : ℕ → List (Answer V)
+  answers' u = map (λ r. r.answer) ((run M' z' ds).told u)
 
   module _ (u i : ℕ) where
     -- What stands among the replies stands among the answers.
@@ -80,7 +80,7 @@ module _ {V : Type 0} (m : Meaning V) (valued : MarksValued m) (limit n k n' k' 
     answer_there replies a stamp e = slice_get-map (λ (r : Reply V). r.answer) replies i ∙ ap (option_map (λ (r : Reply V). r.answer)) e
 
     -- A mark is told the same on both boards.
-    marks_same : (l : ℕ) → ev u i ≡ Some (mark l) → slice_get (told u) i ≡ slice_get (told' u) i
+    marks_same : (l : ℕ) → ev u i ≡ Some (mark l) → slice_get (answers u) i ≡ slice_get (answers' u) i
     marks_same l e =
         let v : Valued m n k limit cs u i = valued n k limit cs u i l e in
         let w : Valued m n' k' limit ds u i = valued n' k' limit ds u i l (subst (λ (x : Events). x u i ≡ Some (mark l)) events e) in
@@ -97,7 +97,7 @@ module _ {V : Type 0} (m : Meaning V) (valued : MarksValued m) (limit n k n' k' 
         ∙ sym (answer_there ((run M' z' ds).told u) (marked b.clock b.predecessors b.value) b.stamp b.told)
 
     -- So is a send or a receipt.
-    moved_same : (p : ℕ) → (ev u i ≡ Some (send p)) ⊎ (ev u i ≡ Some (receive p)) → slice_get (told u) i ≡ slice_get (told' u) i
+    moved_same : (p : ℕ) → (ev u i ≡ Some (send p)) ⊎ (ev u i ≡ Some (receive p)) → slice_get (answers u) i ≡ slice_get (answers' u) i
     moved_same p e =
         let (s, f) = messages_answered V M z cs u i p e in
         let (t, g) = messages_answered V M' z' ds u i p (subst (λ (x : Events). (x u i ≡ Some (send p)) ⊎ (x u i ≡ Some (receive p))) events e) in
@@ -106,17 +106,17 @@ module _ {V : Type 0} (m : Meaning V) (valued : MarksValued m) (limit n k n' k' 
         ∙ sym (answer_there ((run M' z' ds).told u) (message_told ev' u i) t g)
 
     -- Each call is told the same on both boards.
-    told_same : (e : Event) → ev u i ≡ Some e → slice_get (told u) i ≡ slice_get (told' u) i
-    told_same (send p) e = moved_same p (inl e)
-    told_same (receive p) e = moved_same p (inr e)
-    told_same (mark l) e = marks_same l e
+    answer_same : (e : Event) → ev u i ≡ Some e → slice_get (answers u) i ≡ slice_get (answers' u) i
+    answer_same (send p) e = moved_same p (inl e)
+    answer_same (receive p) e = moved_same p (inr e)
+    answer_same (mark l) e = marks_same l e
 
   -- Each unit got the same answers.
   pub same_answers : (u : ℕ) → answers_of u cs (outcomes M z cs) ≡ answers_of u ds (outcomes M' z' ds)
   same_answers u =
       sym (outcomes_told V M z cs u)
-      ∙ by_places ((run M z cs).log u) (told u) (told' u)
+      ∙ by_places ((run M z cs).log u) (answers u) (answers' u)
       (length-map ((run M z cs).told u) (λ (r : Reply V). r.answer) ∙ (said_run M z cs).as_long u)
       (length-map ((run M' z' ds).told u) (λ (r : Reply V). r.answer) ∙ (said_run M' z' ds).as_long u ∙ ap (λ (l : Logs). length (l u)) (sym logs))
-      (told_same u)
+      (answer_same u)
       ∙ outcomes_told V M' z' ds u

@@ -27,35 +27,35 @@ Begins bytes (Ok (End, rest)) = calls_in bytes ≡ []
 Begins bytes (Err reason) = (calls_in bytes ≡ []) × OfForm reason
 
 -- bytes that begin so with their first command
-abbrev Begun : List ℕ → Type 0
-Begun bytes = Begins bytes (first_command bytes)
+abbrev FirstBegins : List ℕ → Type 0
+FirstBegins bytes = Begins bytes (first_command bytes)
 
 -- a making, and the three kinds of calls
-made : (rest : List ℕ) → Begun (0x10 ∷ rest)
-made [] = (refl, tt)
-made (n ∷ []) = (refl, tt)
-made (n ∷ (k ∷ rest)) = (refl, 0x10, refl, λ zs. refl)
+begins_make : (rest : List ℕ) → FirstBegins (0x10 ∷ rest)
+begins_make [] = (refl, tt)
+begins_make (n ∷ []) = (refl, tt)
+begins_make (n ∷ (k ∷ rest)) = (refl, 0x10, refl, λ zs. refl)
 
-sent : (rest : List ℕ) → Begun (0x01 ∷ rest)
-sent [] = (refl, tt)
-sent (u ∷ []) = (refl, tt)
-sent (u ∷ (m ∷ rest)) = (0x01, m, refl, refl)
+begins_send : (rest : List ℕ) → FirstBegins (0x01 ∷ rest)
+begins_send [] = (refl, tt)
+begins_send (u ∷ []) = (refl, tt)
+begins_send (u ∷ (m ∷ rest)) = (0x01, m, refl, refl)
 
-received : (rest : List ℕ) → Begun (0x02 ∷ rest)
-received [] = (refl, tt)
-received (u ∷ []) = (refl, tt)
-received (u ∷ (m ∷ rest)) = (0x02, m, refl, refl)
+begins_receive : (rest : List ℕ) → FirstBegins (0x02 ∷ rest)
+begins_receive [] = (refl, tt)
+begins_receive (u ∷ []) = (refl, tt)
+begins_receive (u ∷ (m ∷ rest)) = (0x02, m, refl, refl)
 
-marked : (rest : List ℕ) → Begun (0x03 ∷ rest)
-marked [] = (refl, tt)
-marked (u ∷ []) = (refl, tt)
-marked (u ∷ (l ∷ rest)) = (0x03, l, refl, refl)
+begins_mark : (rest : List ℕ) → FirstBegins (0x03 ∷ rest)
+begins_mark [] = (refl, tt)
+begins_mark (u ∷ []) = (refl, tt)
+begins_mark (u ∷ (l ∷ rest)) = (0x03, l, refl, refl)
 
 -- the end
-ended : (rest : List ℕ) → Begun (0x00 ∷ rest)
-ended [] = refl
-ended (u ∷ []) = refl
-ended (u ∷ (x ∷ rest)) = refl
+begins_end : (rest : List ℕ) → FirstBegins (0x00 ∷ rest)
+begins_end [] = refl
+begins_end (u ∷ []) = refl
+begins_end (u ∷ (x ∷ rest)) = refl
 
 -- any other byte
 module _ (b : ℕ) (no_make : b ≡ 0x10 → ⊥) (no_send : b ≡ 0x01 → ⊥) (no_receipt : b ≡ 0x02 → ⊥) (no_mark : b ≡ 0x03 → ⊥) (no_end : b ≡ 0x00 → ⊥) where
@@ -67,25 +67,25 @@ module _ (b : ℕ) (no_make : b ≡ 0x10 → ⊥) (no_send : b ≡ 0x01 → ⊥)
   no_calls (u ∷ []) = refl
   no_calls (u ∷ (x ∷ rest)) = rw (ne_eqb b 0x01 no_send, ne_eqb b 0x02 no_receipt, ne_eqb b 0x03 no_mark) refl
 
-  unknown : (rest : List ℕ) → Begun (b ∷ rest)
-  unknown rest = subst (Begins (b ∷ rest)) (sym (no_command rest)) (no_calls rest, tt)
+  begins_other : (rest : List ℕ) → FirstBegins (b ∷ rest)
+  begins_other rest = subst (Begins (b ∷ rest)) (sym (no_command rest)) (no_calls rest, tt)
 
-by_byte : (b : ℕ) (rest : List ℕ) → Begun (b ∷ rest)
+by_byte : (b : ℕ) (rest : List ℕ) → FirstBegins (b ∷ rest)
 by_byte b rest =
-    unless 0x10 (made rest) (λ no_make.
-    unless 0x01 (sent rest) (λ no_send.
-    unless 0x02 (received rest) (λ no_receipt.
-    unless 0x03 (marked rest) (λ no_mark.
-    unless 0x00 (ended rest) (λ no_end. unknown b no_make no_send no_receipt no_mark no_end rest)))))
+    unless 0x10 (begins_make rest) (λ no_make.
+    unless 0x01 (begins_send rest) (λ no_send.
+    unless 0x02 (begins_receive rest) (λ no_receipt.
+    unless 0x03 (begins_mark rest) (λ no_mark.
+    unless 0x00 (begins_end rest) (λ no_end. begins_other b no_make no_send no_receipt no_mark no_end rest)))))
   where
-    unless : (v : ℕ) → Begun (v ∷ rest) → ((b ≡ v → ⊥) → Begun (b ∷ rest)) → Begun (b ∷ rest)
-    unless v here else_so = elim (cases_eq b v) [ inl e ↦ subst (λ (a : ℕ). Begun (a ∷ rest)) (sym e) here | inr other ↦ else_so other ]
+    unless : (v : ℕ) → FirstBegins (v ∷ rest) → ((b ≡ v → ⊥) → FirstBegins (b ∷ rest)) → FirstBegins (b ∷ rest)
+    unless v here else_so = elim (cases_eq b v) [ inl e ↦ subst (λ (a : ℕ). FirstBegins (a ∷ rest)) (sym e) here | inr other ↦ else_so other ]
 
 -- What the first command says of the bytes is so.
 pub begins : (bytes : List ℕ) (r : Result (Command × List ℕ) Reason) → first_command bytes ≡ r → Begins bytes r
 begins bytes r is = subst (Begins bytes) is (all bytes)
   where
-    all : (bytes : List ℕ) → Begun bytes
+    all : (bytes : List ℕ) → FirstBegins bytes
     all [] = (refl, tt)
     all (b ∷ rest) = by_byte b rest
 

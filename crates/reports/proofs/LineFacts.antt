@@ -10,7 +10,7 @@ use Rattle.measures.specs.Measures.{Meaning}
 use Rattle.reports.specs.declared.lines.MarkLine.{MarkLine}
 use Rattle.reports.specs.Laws.{marks_among}
 use Rattle.reports.specs.Recordings.{line, lines}
-use Rattle.reports.proofs.Reading.{AllTaken}
+use Rattle.reports.proofs.TranscriptFacts.{AllTaken}
 
 module _ {V : Type 0} (M : Payload V) (z : Size) where
   -- All of two lists are accepted, one after the other, exactly when those of the first are, and then those of the second.

@@ -13,8 +13,8 @@ use Rattle.history.proofs.Accepting.{accepts_runs}
 use Rattle.history.proofs.Logs.{grown_here}
 use Rattle.history.proofs.Runs.{after_taken, run_push}
 use Rattle.history.proofs.Told.{said_run}
-use Rattle.reports.proofs.Reading.{AllTaken, taken_accepted}
-use Rattle.reports.proofs.Taking.{taken_both}
+use Rattle.reports.proofs.TranscriptFacts.{AllTaken, taken_accepted}
+use Rattle.reports.proofs.LineFacts.{taken_both}
 
 -- After the elements of a list stands the next.
 pub seam : {A : Type 0} (xs : List A) (y : A) (ys : List A) → slice_get (xs ++ y ∷ ys) (length xs) ≡ Some y

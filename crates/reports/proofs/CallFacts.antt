@@ -12,18 +12,18 @@ use Rattle.measures.specs.Worths.{carrying, sized}
 use Rattle.reports.specs.declared.faults.Reason.TheVariants.{Refused}
 use Rattle.reports.specs.declared.faults.RecordingFault.{RecordingFault}
 use Rattle.reports.specs.declared.lines.MarkLine.{MarkLine}
-use Rattle.reports.specs.Commands.{first_command, event_in, begun, calls_in}
-use Rattle.reports.specs.Faults.{broken}
-use Rattle.reports.specs.Recordings.{Told, closed, ending, before_refusal, line, lines, told_on}
+use Rattle.reports.specs.Commands.{first_command, event_in, calls_with_first, calls_in}
+use Rattle.reports.specs.Faults.{fault_at}
+use Rattle.reports.specs.Recordings.{Transcript, end_after_calls, ending, before_refusal, line, lines, transcript_on}
 
 -- What comes after a call and n more is what comes after these n.
-past_call : (n b u x : ℕ) (rest : List ℕ) → drop (3 * suc n) (b ∷ (u ∷ (x ∷ rest))) ≡ drop (3 * n) rest
-past_call n b u x rest = let three : 3 * suc n ≡ suc (suc (suc (3 * n))) = omega arith in ap (λ (i : ℕ). drop i (b ∷ (u ∷ (x ∷ rest)))) three
+drop-call : (n b u x : ℕ) (rest : List ℕ) → drop (3 * suc n) (b ∷ (u ∷ (x ∷ rest))) ≡ drop (3 * n) rest
+drop-call n b u x rest = let three : 3 * suc n ≡ suc (suc (suc (3 * n))) = omega arith in ap (λ (i : ℕ). drop i (b ∷ (u ∷ (x ∷ rest)))) three
 
 -- The calls after the first are those in the bytes after it.
-begun_rest : (u : ℕ) (o : Option Event) (cs : List Call) (c : Call) (ds : List Call) → begun u o cs ≡ c ∷ ds → cs ≡ ds
-begun_rest u None cs c ds h = absurd (cc)
-begun_rest u (Some e) cs c ds h = cc
+first_call_rest : (u : ℕ) (o : Option Event) (cs : List Call) (c : Call) (ds : List Call) → calls_with_first u o cs ≡ c ∷ ds → cs ≡ ds
+first_call_rest u None cs c ds h = absurd (cc)
+first_call_rest u (Some e) cs c ds h = cc
 
 -- After the first of the calls, three bytes further on for each, stand the others.
 pub calls_after : (bytes : List ℕ) (before after : List Call) → calls_in bytes ≡ before ++ after → calls_in (drop (3 * length before) bytes) ≡ after
@@ -32,7 +32,7 @@ calls_after [] (c ∷ before) after h = absurd (cc)
 calls_after (b ∷ []) (c ∷ before) after h = absurd (cc)
 calls_after (b ∷ (u ∷ [])) (c ∷ before) after h = absurd (cc)
 calls_after (b ∷ (u ∷ (x ∷ rest))) (c ∷ before) after h =
-    ap calls_in (past_call (length before) b u x rest) ∙ calls_after rest before after (begun_rest u (event_in b x) (calls_in rest) c (before ++ after) h)
+    ap calls_in (drop-call (length before) b u x rest) ∙ calls_after rest before after (first_call_rest u (event_in b x) (calls_in rest) c (before ++ after) h)
 
 -- Fewer than three bytes have no call.
 few_bytes : (i : ℕ) → i < 3 → (bytes : List ℕ) → calls_in (take i bytes) ≡ []
@@ -52,20 +52,20 @@ calls_before i small (b ∷ (u ∷ [])) (c ∷ before) after h = absurd (cc)
 calls_before i small (b ∷ (u ∷ (x ∷ rest))) (c ∷ before) after h =
     let three : 3 * suc (length before) + i ≡ suc (suc (suc (3 * length before + i))) = omega arith in
     ap (λ (n : ℕ). calls_in (take n (b ∷ (u ∷ (x ∷ rest))))) three
-    ∙ one (event_in b x) h (calls_before i small rest before after (begun_rest u (event_in b x) (calls_in rest) c (before ++ after) h))
+    ∙ one (event_in b x) h (calls_before i small rest before after (first_call_rest u (event_in b x) (calls_in rest) c (before ++ after) h))
   where
-    one : (o : Option Event) → begun u o (calls_in rest) ≡ c ∷ (before ++ after) → calls_in (take (3 * length before + i) rest) ≡ before
-        → begun u o (calls_in (take (3 * length before + i) rest)) ≡ c ∷ before
+    one : (o : Option Event) → calls_with_first u o (calls_in rest) ≡ c ∷ (before ++ after) → calls_in (take (3 * length before + i) rest) ≡ before
+        → calls_with_first u o (calls_in (take (3 * length before + i) rest)) ≡ c ∷ before
     one None e ih = absurd (cc)
     one (Some x) e ih = cc
 
 -- what tells of no call
-abbrev pub silent : ℕ → ℕ → Result ℕ RecordingFault → Told
-silent n k end = record { units = n; messages = k; calls = []; lines = []; end = end }
+abbrev pub end_transcript : ℕ → ℕ → Result ℕ RecordingFault → Transcript
+end_transcript n k end = record { units = n; messages = k; calls = []; lines = []; end = end }
 
 -- some calls and lines before what is told
-abbrev pub begun_with : List Call → List MarkLine → Told → Told
-begun_with cs ls t = record { units = t.units; messages = t.messages; calls = cs ++ t.calls; lines = ls ++ t.lines; end = t.end }
+abbrev pub transcript_with : List Call → List MarkLine → Transcript → Transcript
+transcript_with cs ls t = record { units = t.units; messages = t.messages; calls = cs ++ t.calls; lines = ls ++ t.lines; end = t.end }
 
 module _ (m : Meaning ℕ) (some all : ℕ → Bool) (n k : ℕ) (s : State ℕ) (place : ℕ) (bytes : List ℕ) where
   abbrev M : Payload ℕ
@@ -75,37 +75,37 @@ module _ (m : Meaning ℕ) (some all : ℕ → Bool) (n k : ℕ) (s : State ℕ)
   z = sized m n k most_marks
 
   -- what is told of calls at the front of the bytes that are answered so, and lead to this state
-  abbrev by_answers : List Call → List (Result (Answer ℕ) Refusal) → State ℕ → Told
-  by_answers cs xs t = record {
+  abbrev transcript_by_answers : List Call → List (Result (Answer ℕ) Refusal) → State ℕ → Transcript
+  transcript_by_answers cs xs t = record {
     units = n;
     messages = k;
     calls = before_refusal cs xs;
     lines = lines m some all cs xs;
-    end = ending place xs (closed (travelling t.posts k) (place + 3 * length cs) (first_command (drop (3 * length cs) bytes)));
+    end = ending place xs (end_after_calls (travelling t.posts k) (place + 3 * length cs) (first_command (drop (3 * length cs) bytes)));
   }
 
   -- what the board tells if these calls are at their front
-  abbrev tells : List Call → Told
-  tells cs = by_answers cs (outcomes_from M z s cs) (state_from M z s cs)
+  abbrev transcript_of_calls : List Call → Transcript
+  transcript_of_calls cs = transcript_by_answers cs (outcomes_from M z s cs) (state_from M z s cs)
 
   -- Where there are no calls, the bytes close the recording.
-  pub none_on : calls_in bytes ≡ [] → told_on m some all n k s place bytes ≡ silent n k (closed (travelling s.posts k) place (first_command bytes))
-  none_on none = ap tells none ∙ ap (λ (p : ℕ). silent n k (closed (travelling s.posts k) p (first_command bytes))) (omega arith)
+  pub transcript_on-no_call : calls_in bytes ≡ [] → transcript_on m some all n k s place bytes ≡ end_transcript n k (end_after_calls (travelling s.posts k) place (first_command bytes))
+  transcript_on-no_call none = ap transcript_of_calls none ∙ ap (λ (p : ℕ). end_transcript n k (end_after_calls (travelling s.posts k) p (first_command bytes))) (omega arith)
 
   module _ (c : Call) (rest : List ℕ) (first : calls_in bytes ≡ c ∷ calls_in rest) where
     -- what it tells if the first call is answered so
-    abbrev told_by : Result (Answer ℕ) Refusal → Told
-    told_by r = by_answers (c ∷ calls_in rest) (r ∷ outcomes_from M z (next M z s c) (calls_in rest)) (state_from M z (next M z s c) (calls_in rest))
+    abbrev transcript_by : Result (Answer ℕ) Refusal → Transcript
+    transcript_by r = transcript_by_answers (c ∷ calls_in rest) (r ∷ outcomes_from M z (next M z s c) (calls_in rest)) (state_from M z (next M z s c) (calls_in rest))
 
     -- A call that is refused breaks the recording off.
-    pub refused_on : (e : Refusal) → outcome M z s c ≡ Err e → told_on m some all n k s place bytes ≡ silent n k (Err (broken (Refused e) place))
-    refused_on e refused = ap tells first ∙ ap told_by refused
+    pub transcript_on-refused : (e : Refusal) → outcome M z s c ≡ Err e → transcript_on m some all n k s place bytes ≡ end_transcript n k (Err (fault_at (Refused e) place))
+    transcript_on-refused e refused = ap transcript_of_calls first ∙ ap transcript_by refused
 
     -- After one that is accepted the recording goes on.
-    pub accepted_on : (b u x : ℕ) → bytes ≡ b ∷ (u ∷ (x ∷ rest)) → (a : Answer ℕ) → outcome M z s c ≡ Ok a
-        → told_on m some all n k s place bytes ≡ begun_with (c ∷ []) (line m some all c.unit a) (told_on m some all n k (next M z s c) (place + 3) rest)
-    accepted_on b u x is a accepted =
+    pub transcript_on-accepted : (b u x : ℕ) → bytes ≡ b ∷ (u ∷ (x ∷ rest)) → (a : Answer ℕ) → outcome M z s c ≡ Ok a
+        → transcript_on m some all n k s place bytes ≡ transcript_with (c ∷ []) (line m some all c.unit a) (transcript_on m some all n k (next M z s c) (place + 3) rest)
+    transcript_on-accepted b u x is a accepted =
         let more = length (calls_in rest) in
         let further : place + 3 * suc more ≡ place + 3 + 3 * more = omega arith in
-        let after : drop (3 * suc more) bytes ≡ drop (3 * more) rest = ap (drop (3 * suc more)) is ∙ past_call more b u x rest in
-        ap tells first ∙ ap told_by accepted ∙ rw (further, after) refl
+        let after : drop (3 * suc more) bytes ≡ drop (3 * more) rest = ap (drop (3 * suc more)) is ∙ drop-call more b u x rest in
+        ap transcript_of_calls first ∙ ap transcript_by accepted ∙ rw (further, after) refl

@@ -10,8 +10,8 @@ use Rattle.measures.specs.Refusals.{fault, ask, counted}
 use Rattle.reports.specs.declared.faults.Fault.TheVariants.{Pattern, Relabelling}
 use Rattle.reports.specs.Reports.{relabelling_at, recording_at, front_fault}
 use Rattle.reports.specs.Laws.{SameFront}
-use Rattle.reports.proofs.Asked.{asked, passed, both, neither}
-use Rattle.reports.proofs.Facts.{front_parts, table_sound}
+use Rattle.reports.proofs.QuestionFacts.{ask_parts, ask_none, or_parts, or_none}
+use Rattle.reports.proofs.FrontFacts.{front_parts, table_sound}
 
 -- whether a byte is there and begins a relabelling, of one that is there and is the same
 begins_same : (at m n x y : ℕ) → at < n → x ≡ y → (nat_lt at m && y == 0x30) ≡ true → (nat_lt at n && x == 0x30) ≡ true
@@ -21,7 +21,7 @@ begins_same at m n x y l e h = grind (arith, nat_tests)
 pub front_within : (b : List ℕ) → front_fault b ≡ None → recording_at b ≤ length b
 front_within b sound =
     let at = relabelling_at b in
-    let table = (both (relabelling_head_fault b at) (table_fault b (at + 2) (relabelling_labels_in b at) (labels_in b)) (front_parts b sound).2).1 in
+    let table = (or_parts (relabelling_head_fault b at) (table_fault b (at + 2) (relabelling_labels_in b at) (labels_in b)) (front_parts b sound).2).1 in
     let fits = (table_sound b (at + 2) (relabelling_labels_in b at) (labels_in b) table).0 in
     omega arith
 
@@ -48,21 +48,21 @@ module _ (b : List ℕ) (p : ℕ) where
     table_part : (from count bound : ℕ) → from + count ≤ p → table_fault b from count bound ≡ None → table_fault d from count bound ≡ None
     table_part from count bound l none =
         let is = reaching in
-        passed _ _ _ (grind (arith, nat_tests)) (ap (λ (xs : List ℕ). over_fault from (first_over bound xs)) (same_bytes from count l) ∙ (asked _ _ _ none).1)
+        ask_none _ _ _ (grind (arith, nat_tests)) (ap (λ (xs : List ℕ). over_fault from (first_over bound xs)) (same_bytes from count l) ∙ (ask_parts _ _ _ none).1)
 
     -- the first two bytes of a relabelling that lie in the part are as good there
     count_part : (at : ℕ) → at + 1 < p → relabelling_head_fault b at ≡ None → relabelling_head_fault d at ≡ None
     count_part at l none =
         let is = reaching in
-        let begun = asked (nat_lt at (length b) && slice_index b at == 0x30) _ _ none in
-        passed _ _ _ (begins_same at (length b) (length d) (slice_index d at) (slice_index b at) (omega arith) (same_byte at (omega arith)) begun.0)
-        (passed _ _ _ (grind (arith, nat_tests)) (ap (λ (c : ℕ). ask (counted c) (fault LabelCount (at + 1)) None) (same_byte (at + 1) l) ∙ (asked _ _ _ begun.1).1))
+        let begun = ask_parts (nat_lt at (length b) && slice_index b at == 0x30) _ _ none in
+        ask_none _ _ _ (begins_same at (length b) (length d) (slice_index d at) (slice_index b at) (omega arith) (same_byte at (omega arith)) begun.0)
+        (ask_none _ _ _ (grind (arith, nat_tests)) (ap (λ (c : ℕ). ask (counted c) (fault LabelCount (at + 1)) None) (same_byte (at + 1) l) ∙ (ask_parts _ _ _ begun.1).1))
 
     -- and so is a relabelling
     relabelling_part : (at n : ℕ) → at + 2 + relabelling_labels_in b at ≤ p → relabelling_fault b at n ≡ None → relabelling_fault d at n ≡ None
     relabelling_part at n l none =
-        let (head, table) = both (relabelling_head_fault b at) (table_fault b (at + 2) (relabelling_labels_in b at) n) none in
-        neither _ _ (count_part at (omega arith) head)
+        let (head, table) = or_parts (relabelling_head_fault b at) (table_fault b (at + 2) (relabelling_labels_in b at) n) none in
+        or_none _ _ (count_part at (omega arith) head)
         (subst (λ (c : ℕ). table_fault d (at + 2) c n ≡ None) (sym (same_byte (at + 1) (omega arith))) (table_part (at + 2) (relabelling_labels_in b at) n l table))
 
 -- what is wrong with a pattern's first twelve bytes, if they are there
@@ -129,13 +129,13 @@ module _ (b : List ℕ) (p : ℕ) (reaches : recording_at b ≤ p) where
     head_part : head_fault b ≡ None → head_fault e ≡ None
     head_part none =
         let is = reaching b p fits in
-        passed _ _ _ (grind (arith, nat_tests)) (head_same _ _ _ _ _ _ _ _ _ _ (sym (same_byte b p 0 (omega arith))) same_states same_labels same_start same_finals
-        (asked _ _ (head_rest (slice_index b 0) (states_in b) (labels_in b) (start_in b) (finals_in b)) none).1)
+        ask_none _ _ _ (grind (arith, nat_tests)) (head_same _ _ _ _ _ _ _ _ _ _ (sym (same_byte b p 0 (omega arith))) same_states same_labels same_start same_finals
+        (ask_parts _ _ (head_rest (slice_index b 0) (states_in b) (labels_in b) (start_in b) (finals_in b)) none).1)
 
     pattern_part : pattern_fault b ≡ None → pattern_fault e ≡ None
     pattern_part none =
-        let (head, table) = both (head_fault b) (table_fault b 12 (states_in b * labels_in b) (states_in b)) none in
-        neither _ _ (head_part head)
+        let (head, table) = or_parts (head_fault b) (table_fault b 12 (states_in b * labels_in b) (states_in b)) none in
+        or_none _ _ (head_part head)
         (subst (λ (n : ℕ). table_fault e 12 (states_in e * labels_in e) n ≡ None) same_states
         (subst (λ (n : ℕ). table_fault e 12 n (states_in b) ≡ None) same_size
         (table_part b p fits 12 (states_in b * labels_in b) (states_in b) (omega arith) table)))
@@ -151,4 +151,4 @@ module _ (b : List ℕ) (p : ℕ) (reaches : recording_at b ≤ p) where
     part_front none =
         let is = reaching b p fits in
         let (size, pattern, relabelling) = front_parts b none in
-        passed _ _ _ (grind (arith, nat_tests)) (neither _ _ (ap (option_map Pattern) (pattern_part pattern)) (ap (option_map Relabelling) (relabels_part relabelling)))
+        ask_none _ _ _ (grind (arith, nat_tests)) (or_none _ _ (ap (option_map Pattern) (pattern_part pattern)) (ap (option_map Relabelling) (relabels_part relabelling)))

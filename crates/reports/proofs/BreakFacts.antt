@@ -16,12 +16,12 @@ use Rattle.reports.specs.declared.faults.Reason.TheVariants.{NoByte, NoCommand, 
 use Rattle.reports.specs.declared.faults.RecordingFault.{RecordingFault}
 use Rattle.reports.specs.Commands.{first_command, calls_in}
 use Rattle.reports.specs.Laws.{AfterCalls, Breaks, RefusedCall}
-use Rattle.reports.specs.Recordings.{Told, closed, ending, told_from, told_nothing, told_of_board, told_on}
-use Rattle.reports.specs.Reports.{judge_in, some_in, all_in, recording_at, told_in}
-use Rattle.reports.proofs.Calls.{calls_before, calls_after}
-use Rattle.reports.proofs.Cuts.{same_break}
-use Rattle.reports.proofs.FirstCommands.{OfForm, begins}
-use Rattle.reports.proofs.Reading.{reads}
+use Rattle.reports.specs.Recordings.{Transcript, end_after_calls, ending, transcript_from, empty_transcript, transcript_of_board, transcript_on}
+use Rattle.reports.specs.Reports.{judge_in, some_in, all_in, recording_at, transcript_in}
+use Rattle.reports.proofs.CallFacts.{calls_before, calls_after}
+use Rattle.reports.proofs.CutFacts.{same_break}
+use Rattle.reports.proofs.FirstCommandFacts.{OfForm, begins}
+use Rattle.reports.proofs.TranscriptFacts.{reads}
 
 module _ (M : Payload ℕ) (z : Size) where
   -- Where answers break off, each call was read, and what closes them does so; or it is the call after those read that is refused.
@@ -52,30 +52,30 @@ module _ (b : List ℕ) where
 
   -- what a recording comes to whose first command makes such a board, refused so or made
   by_board : (n k : ℕ) (rest : List ℕ) → first_command bytes ≡ Ok (commands.Make n k, rest) → (o : Option Refusal) → make_refusal n k true ≡ o
-      → told_in b ≡ told_of_board (judge_in b) (some_in b) (all_in b) n k (recording_at b) rest o
+      → transcript_in b ≡ transcript_of_board (judge_in b) (some_in b) (all_in b) n k (recording_at b) rest o
   by_board n k rest first o is =
-      ap (told_from (judge_in b) (some_in b) (all_in b) (recording_at b)) first ∙ ap (told_of_board (judge_in b) (some_in b) (all_in b) n k (recording_at b) rest) is
+      ap (transcript_from (judge_in b) (some_in b) (all_in b) (recording_at b)) first ∙ ap (transcript_of_board (judge_in b) (some_in b) (all_in b) n k (recording_at b) rest) is
 
   -- The board has the size that the making asks for.
   pub sized_as_made : (n k : ℕ) (rest : List ℕ) → first_command bytes ≡ Ok (commands.Make n k, rest) → make_refusal n k true ≡ None
-      → ((told_in b).units ≡ n) × ((told_in b).messages ≡ k)
+      → ((transcript_in b).units ≡ n) × ((transcript_in b).messages ≡ k)
   sized_as_made n k rest first made =
       let is = by_board n k rest first None made in
-      (ap (λ (t : Told). t.units) is, ap (λ (t : Told). t.messages) is)
+      (ap (λ (t : Transcript). t.units) is, ap (λ (t : Transcript). t.messages) is)
 
   -- what stands at a break, where it is one of form
-  form : (place : ℕ) (reason : Reason) → OfForm reason → ((place ≡ recording_at b) ⊎ AfterCalls b place) → first_command (drop place b) ≡ Err reason → Breaks b place reason
-  form place NoByte of_form at is = (at, is)
-  form place NoCommand of_form at is = (at, is)
-  form place NoOperands of_form at is = (at, is)
-  form place NoBoard of_form at is = absurd of_form
-  form place SecondBoard of_form at is = absurd of_form
-  form place BytesAfterEnd of_form at is = absurd of_form
-  form place (Refused e) of_form at is = absurd of_form
+  breaks_of_form : (place : ℕ) (reason : Reason) → OfForm reason → ((place ≡ recording_at b) ⊎ AfterCalls b place) → first_command (drop place b) ≡ Err reason → Breaks b place reason
+  breaks_of_form place NoByte of_form at is = (at, is)
+  breaks_of_form place NoCommand of_form at is = (at, is)
+  breaks_of_form place NoOperands of_form at is = (at, is)
+  breaks_of_form place NoBoard of_form at is = absurd of_form
+  breaks_of_form place SecondBoard of_form at is = absurd of_form
+  breaks_of_form place BytesAfterEnd of_form at is = absurd of_form
+  breaks_of_form place (Refused e) of_form at is = absurd of_form
 
   -- what a fault says stands where it says
-  moved : (place : ℕ) (reason : Reason) (f : RecordingFault) → Breaks b place reason → ((reason ≡ f.reason) × (place ≡ f.place)) → Breaks b f.place f.reason
-  moved place reason f breaks s = subst (λ (p : ℕ). Breaks b p f.reason) s.1 (subst (λ (r : Reason). Breaks b place r) s.0 breaks)
+  breaks_at_fault : (place : ℕ) (reason : Reason) (f : RecordingFault) → Breaks b place reason → ((reason ≡ f.reason) × (place ≡ f.place)) → Breaks b f.place f.reason
+  breaks_at_fault place reason f breaks s = subst (λ (p : ℕ). Breaks b p f.reason) s.1 (subst (λ (r : Reason). Breaks b place r) s.0 breaks)
 
   -- a board that is made
   module _ (n k : ℕ) (rest : List ℕ) (first : first_command bytes ≡ Ok (commands.Make n k, rest)) (made : make_refusal n k true ≡ None) (f : RecordingFault) where
@@ -85,18 +85,18 @@ module _ (b : List ℕ) where
     abbrev z : Size
     z = sized (judge_in b) n k most_marks
 
-    abbrev t : Told
-    t = told_on (judge_in b) (some_in b) (all_in b) n k (new_state M) (recording_at b + 3) rest
+    abbrev t : Transcript
+    t = transcript_on (judge_in b) (some_in b) (all_in b) n k (new_state M) (recording_at b + 3) rest
 
-    told_on_board : told_in b ≡ t
-    told_on_board = by_board n k rest first None made
+    transcript_is_on_board : transcript_in b ≡ t
+    transcript_is_on_board = by_board n k rest first None made
 
     three : rest ≡ drop 3 bytes
     three = let (none, x, same, whatever) = begins bytes _ first in sym (ap (drop 3) same)
 
     -- the byte after the calls that were read
     after_calls : (place : ℕ) → place ≡ recording_at b + 3 + 3 * length t.calls → AfterCalls b place
-    after_calls place at = (n, k, rest, first, made, at ∙ ap (λ (w : Told). recording_at b + 3 + 3 * length w.calls) (sym told_on_board))
+    after_calls place at = (n, k, rest, first, made, at ∙ ap (λ (w : Transcript). recording_at b + 3 + 3 * length w.calls) (sym transcript_is_on_board))
 
     -- the byte after all calls, and the bytes from there on
     abbrev last : ℕ
@@ -110,17 +110,17 @@ module _ (b : List ℕ) where
     there i place at = sym (ap (drop i) three ∙ drop-drop i 3 bytes ∙ drop-drop (3 + i) (recording_at b) b ∙ ap (λ (j : ℕ). drop j b) (omega arith))
 
     -- What closes the calls of a board breaks off as it says, less than three bytes after them.
-    closes : AfterCalls b last → (left : ℕ) (r : Result (Command × List ℕ) Reason) → first_command tail ≡ r → closed left last r ≡ Err f → (i : ℕ) × (i < 3) × (f.place ≡ last + i) × Breaks b f.place f.reason
+    closes : AfterCalls b last → (left : ℕ) (r : Result (Command × List ℕ) Reason) → first_command tail ≡ r → end_after_calls left last r ≡ Err f → (i : ℕ) × (i < 3) × (f.place ≡ last + i) × Breaks b f.place f.reason
     closes at left (Err reason) is e =
         let s = same_break reason last f e in
-        (0, omega arith, omega arith, moved last reason f (form last reason (begins tail _ is).1 (inr at) (ap first_command (there _ last refl) ∙ is)) s)
+        (0, omega arith, omega arith, breaks_at_fault last reason f (breaks_of_form last reason (begins tail _ is).1 (inr at) (ap first_command (there _ last refl) ∙ is)) s)
     closes at left (Ok (commands.End, [])) is e = absurd (cc)
     closes at left (Ok (commands.End, x ∷ more)) is e =
         let s = same_break BytesAfterEnd (last + 1) f e in
-        (1, omega arith, omega arith, moved (last + 1) BytesAfterEnd f (last, omega arith, at, x, more, ap first_command (there _ last refl) ∙ is) s)
+        (1, omega arith, omega arith, breaks_at_fault (last + 1) BytesAfterEnd f (last, omega arith, at, x, more, ap first_command (there _ last refl) ∙ is) s)
     closes at left (Ok (commands.Make u v, more)) is e =
         let s = same_break SecondBoard last f e in
-        (0, omega arith, omega arith, moved last SecondBoard f (at, u, v, more, ap first_command (there _ last refl) ∙ is) s)
+        (0, omega arith, omega arith, breaks_at_fault last SecondBoard f (at, u, v, more, ap first_command (there _ last refl) ∙ is) s)
     closes at left (Ok (commands.Call c, more)) is e =
         let none = calls_after rest (calls_in rest) [] (sym (append-nil (calls_in rest))) in
         let (x, y, same, some) = begins tail _ is in
@@ -138,7 +138,7 @@ module _ (b : List ℕ) where
     on_board : t.end ≡ Err f → (t.calls ≡ calls_in (drop (recording_at b + 3) (take f.place b))) × Breaks b f.place f.reason
     on_board ends =
         let left = travelling (state_from M z (new_state M) (calls_in rest)).posts k in
-        elim (break_off M z (new_history M) (calls_in rest) (recording_at b + 3) (closed left last (first_command tail)) f ends) [
+        elim (break_off M z (new_history M) (calls_in rest) (recording_at b + 3) (end_after_calls left last (first_command tail)) f ends) [
           | inl (p, q) ↦
               let same : length t.calls ≡ length (calls_in rest) = ap length q in
               let (i, small, at, breaks) = closes (after_calls last (omega arith)) left (first_command tail) refl p in
@@ -147,43 +147,43 @@ module _ (b : List ℕ) where
             read_before 0 (omega arith) (omega arith) (c ∷ after) p,
             subst (λ (reason : Reason). Breaks b f.place reason) s (inr (
               after_calls f.place at,
-              subst (λ (w : Told). RefusedCall b w f.place e) (sym told_on_board)
+              subst (λ (w : Transcript). RefusedCall b w f.place e) (sym transcript_is_on_board)
                   (c, after, ap calls_in (there _ f.place at) ∙ calls_after rest t.calls (c ∷ after) p, r),
             )),
           )
         ]
 
-  module _ (f : RecordingFault) (ends : (told_in b).end ≡ Err f) where
+  module _ (f : RecordingFault) (ends : (transcript_in b).end ≡ Err f) where
     -- the calls read are those before the break, and what stands there is a reason
     abbrev Broke : Type 0
-    Broke = ((told_in b).calls ≡ calls_in (drop (recording_at b + 3) (take f.place b))) × Breaks b f.place f.reason
+    Broke = ((transcript_in b).calls ≡ calls_in (drop (recording_at b + 3) (take f.place b))) × Breaks b f.place f.reason
 
     -- what breaks off at once has no calls, and none before the break
-    at_once : (reason : Reason) → told_in b ≡ told_nothing (judge_in b) (some_in b) (all_in b) reason (recording_at b) → Breaks b (recording_at b) reason → Broke
+    at_once : (reason : Reason) → transcript_in b ≡ empty_transcript (judge_in b) (some_in b) (all_in b) reason (recording_at b) → Breaks b (recording_at b) reason → Broke
     at_once reason is breaks =
-        let s = same_break reason (recording_at b) f (sym (ap (λ (t : Told). t.end) is) ∙ ends) in
+        let s = same_break reason (recording_at b) f (sym (ap (λ (t : Transcript). t.end) is) ∙ ends) in
         let at : f.place ≡ recording_at b + 0 = omega arith in
         let none : drop (recording_at b + 3) (take f.place b) ≡ [] =
         ap (λ (p : ℕ). drop (recording_at b + 3) (take p b)) at ∙ sym (drop-drop 3 (recording_at b) (take (recording_at b + 0) b)) ∙ ap (drop 3) (drop-take (recording_at b) 0 b) in
-        (ap (λ (t : Told). t.calls) is ∙ ap calls_in (sym none), moved (recording_at b) reason f breaks s)
+        (ap (λ (t : Transcript). t.calls) is ∙ ap calls_in (sym none), breaks_at_fault (recording_at b) reason f breaks s)
 
     by_making : (n k : ℕ) (rest : List ℕ) → first_command bytes ≡ Ok (commands.Make n k, rest) → (o : Option Refusal) → make_refusal n k true ≡ o → Broke
     by_making n k rest first (Some e) not = at_once (Refused e) (by_board n k rest first (Some e) not) (inl (refl, n, k, rest, first, not))
     by_making n k rest first None ok =
         let told = by_board n k rest first None ok in
-        let (calls, breaks) = on_board n k rest first ok f (sym (ap (λ (t : Told). t.end) told) ∙ ends) in
-        (ap (λ (t : Told). t.calls) told ∙ calls, breaks)
+        let (calls, breaks) = on_board n k rest first ok f (sym (ap (λ (t : Transcript). t.end) told) ∙ ends) in
+        (ap (λ (t : Transcript). t.calls) told ∙ calls, breaks)
 
     by_first : (r : Result (Command × List ℕ) Reason) → first_command bytes ≡ r → Broke
-    by_first (Err reason) is = at_once reason (ap (told_from (judge_in b) (some_in b) (all_in b) (recording_at b)) is) (form (recording_at b) reason (begins bytes _ is).1 (inl refl) is)
+    by_first (Err reason) is = at_once reason (ap (transcript_from (judge_in b) (some_in b) (all_in b) (recording_at b)) is) (breaks_of_form (recording_at b) reason (begins bytes _ is).1 (inl refl) is)
     by_first (Ok (commands.Make n k, rest)) is = by_making n k rest is (make_refusal n k true) refl
     by_first (Ok (commands.Call c, rest)) is =
-        at_once NoBoard (ap (told_from (judge_in b) (some_in b) (all_in b) (recording_at b)) is) (refl, commands.Call c, rest, is, λ n k h. (cc))
+        at_once NoBoard (ap (transcript_from (judge_in b) (some_in b) (all_in b) (recording_at b)) is) (refl, commands.Call c, rest, is, λ n k h. (cc))
     by_first (Ok (commands.End, rest)) is =
-        at_once NoBoard (ap (told_from (judge_in b) (some_in b) (all_in b) (recording_at b)) is) (refl, commands.End, rest, is, λ n k h. (cc))
+        at_once NoBoard (ap (transcript_from (judge_in b) (some_in b) (all_in b) (recording_at b)) is) (refl, commands.End, rest, is, λ n k h. (cc))
 
     -- The calls read are all that stand before the break.
-    pub read_to : (told_in b).calls ≡ calls_in (drop (recording_at b + 3) (take f.place b))
+    pub read_to : (transcript_in b).calls ≡ calls_in (drop (recording_at b + 3) (take f.place b))
     read_to = (by_first (first_command bytes) refl).0
 
     -- And what stands there is a reason to break off.

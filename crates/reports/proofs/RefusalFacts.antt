@@ -18,29 +18,29 @@ use Rattle.reports.specs.declared.faults.Reason.{Reason}
 use Rattle.reports.specs.declared.faults.Reason.TheVariants.{NoBoard, SecondBoard, BytesAfterEnd, Refused}
 use Rattle.reports.specs.declared.faults.RecordingFault.{RecordingFault}
 use Rattle.reports.specs.Commands.{first_command, calls_in}
-use Rattle.reports.specs.Faults.{broken}
-use Rattle.reports.specs.Recordings.{Told, closed, ending, told_from, told_nothing, told_on}
-use Rattle.reports.specs.Reports.{judge_in, some_in, all_in, recording_at, told_in}
-use Rattle.reports.proofs.Calls.{calls_after}
-use Rattle.reports.proofs.Cuts.{same_break}
-use Rattle.reports.proofs.FirstCommands.{begins, begins_call}
-use Rattle.reports.proofs.Marks.{log_is}
-use Rattle.reports.proofs.Reading.{reads, reads_taken, told_cases}
+use Rattle.reports.specs.Faults.{fault_at}
+use Rattle.reports.specs.Recordings.{Transcript, end_after_calls, ending, transcript_from, empty_transcript, transcript_on}
+use Rattle.reports.specs.Reports.{judge_in, some_in, all_in, recording_at, transcript_in}
+use Rattle.reports.proofs.CallFacts.{calls_after}
+use Rattle.reports.proofs.CutFacts.{same_break}
+use Rattle.reports.proofs.FirstCommandFacts.{begins, begins_call}
+use Rattle.reports.proofs.LastMarkFacts.{log_is}
+use Rattle.reports.proofs.TranscriptFacts.{reads, reads_taken, transcript_cases}
 
 -- Bytes that close a recording refuse nothing.
-closed_refuses : (left place : ℕ) (r : Result (Command × List ℕ) Reason) (e : Refusal) (p : ℕ) → (r ≡ Err (Refused e) → ⊥) → closed left place r ≡ Err (broken (Refused e) p) → ⊥
-closed_refuses left place (Err reason) e p none h = none (ap (λ (x : Reason). Err x) (same_break reason place (broken (Refused e) p) h).0)
-closed_refuses left place (Ok (commands.End, [])) e p none h = cc
-closed_refuses left place (Ok (commands.End, x ∷ rest)) e p none h = let s = (same_break BytesAfterEnd (place + 1) (broken (Refused e) p) h).0 in cc
-closed_refuses left place (Ok (commands.Make n k, rest)) e p none h = let s = (same_break SecondBoard place (broken (Refused e) p) h).0 in cc
-closed_refuses left place (Ok (commands.Call c, rest)) e p none h = let s = (same_break SecondBoard place (broken (Refused e) p) h).0 in cc
+end_after_calls-refuses_nothing : (left place : ℕ) (r : Result (Command × List ℕ) Reason) (e : Refusal) (p : ℕ) → (r ≡ Err (Refused e) → ⊥) → end_after_calls left place r ≡ Err (fault_at (Refused e) p) → ⊥
+end_after_calls-refuses_nothing left place (Err reason) e p none h = none (ap (λ (x : Reason). Err x) (same_break reason place (fault_at (Refused e) p) h).0)
+end_after_calls-refuses_nothing left place (Ok (commands.End, [])) e p none h = cc
+end_after_calls-refuses_nothing left place (Ok (commands.End, x ∷ rest)) e p none h = let s = (same_break BytesAfterEnd (place + 1) (fault_at (Refused e) p) h).0 in cc
+end_after_calls-refuses_nothing left place (Ok (commands.Make n k, rest)) e p none h = let s = (same_break SecondBoard place (fault_at (Refused e) p) h).0 in cc
+end_after_calls-refuses_nothing left place (Ok (commands.Call c, rest)) e p none h = let s = (same_break SecondBoard place (fault_at (Refused e) p) h).0 in cc
 
 module _ (M : Payload ℕ) (z : Size) where
   -- where the answers break a recording off with a refusal, the call there, next after those before it, is refused so
   abbrev RefusedAt : History ℕ → List Call → Type 0
   RefusedAt h cs =
-      (pl : ℕ) (closing : Result ℕ RecordingFault) (e : Refusal) (place : ℕ) → (closing ≡ Err (broken (Refused e) place) → ⊥)
-      → ending pl (outcomes_from M z h.state cs) closing ≡ Err (broken (Refused e) place)
+      (pl : ℕ) (closing : Result ℕ RecordingFault) (e : Refusal) (place : ℕ) → (closing ≡ Err (fault_at (Refused e) place) → ⊥)
+      → ending pl (outcomes_from M z h.state cs) closing ≡ Err (fault_at (Refused e) place)
       → (c : Call) × (after : List Call) × (cs ≡ reads M z h.state cs ++ c ∷ after) × (place ≡ pl + 3 * length (reads M z h.state cs))
       × (refusal M z (run_from M z h (reads M z h.state cs)).state c.unit c.act ≡ Some e)
 
@@ -55,7 +55,7 @@ module _ (M : Payload ℕ) (z : Size) where
 
       turned : (h : History ℕ) (c : Call) (cs : List Call) (x : Refusal) → refusal M z h.state c.unit c.act ≡ Some x → RefusedAt h cs → RefusedAt h (c ∷ cs)
       turned h c cs x e same = rw e (λ pl closing y place no is.
-          let (p, q) = same_break (Refused x) pl (broken (Refused y) place) is in
+          let (p, q) = same_break (Refused x) pl (fault_at (Refused y) place) is in
           (c, cs, refl, omega arith, e ∙ (cc)))
 
 module _ (M : Payload ℕ) (z : Size) (bytes : List ℕ) where
@@ -70,8 +70,8 @@ module _ (M : Payload ℕ) (z : Size) (bytes : List ℕ) where
       none-some e (sym ok ∙ r)
 
   -- So it is of the call at the place where the answers break a recording off.
-  broken_impossible : (place : ℕ) (closing : Result ℕ RecordingFault) (e : Refusal) (at : ℕ) → (closing ≡ Err (broken (Refused e) at) → ⊥)
-      → ending place (outcomes_from M z (new_state M) (calls_in bytes)) closing ≡ Err (broken (Refused e) at)
+  broken_impossible : (place : ℕ) (closing : Result ℕ RecordingFault) (e : Refusal) (at : ℕ) → (closing ≡ Err (fault_at (Refused e) at) → ⊥)
+      → ending place (outcomes_from M z (new_state M) (calls_in bytes)) closing ≡ Err (fault_at (Refused e) at)
       → (c : Call) (cs : List Call) → ((i : ℕ) → at ≡ place + i → calls_in (drop i bytes) ≡ c ∷ cs) → Possible z (by_unit seen) c.unit c.act → ⊥
   broken_impossible place closing e at other is c cs h p =
       let (d, after, q, there, r) = refused_at M z (new_history M) (calls_in bytes) place closing e at other is in
@@ -83,22 +83,22 @@ module _ (b : List ℕ) where
   bytes = drop (recording_at b) b
 
   -- where it breaks off with a refusal, the call there is none that could come next
-  abbrev RefusedIn : Told → Type 0
+  abbrev RefusedIn : Transcript → Type 0
   RefusedIn t =
-      (e : Refusal) (place : ℕ) → t.end ≡ Err (broken (Refused e) place) → (c : Call) (cs : List Call) → calls_in (drop place b) ≡ c ∷ cs
+      (e : Refusal) (place : ℕ) → t.end ≡ Err (fault_at (Refused e) place) → (c : Call) (cs : List Call) → calls_in (drop place b) ≡ c ∷ cs
       → Possible (sized (judge_in b) t.units t.messages most_marks) (by_unit t.calls) c.unit c.act → ⊥
 
   -- So it is where nothing is told, since no call comes first.
-  on_nothing : (reason : Reason) → told_in b ≡ told_nothing (judge_in b) (some_in b) (all_in b) reason (recording_at b) → RefusedIn (told_nothing (judge_in b) (some_in b) (all_in b) reason (recording_at b))
+  on_nothing : (reason : Reason) → transcript_in b ≡ empty_transcript (judge_in b) (some_in b) (all_in b) reason (recording_at b) → RefusedIn (empty_transcript (judge_in b) (some_in b) (all_in b) reason (recording_at b))
   on_nothing reason t e place is c cs h p =
-      let (r, at) = same_break reason (recording_at b) (broken (Refused e) place) is in
+      let (r, at) = same_break reason (recording_at b) (fault_at (Refused e) place) is in
       let (x, rest, f) = begins_call bytes c cs (ap (λ (i : ℕ). calls_in (drop i b)) at ∙ h) in
-      let s = ap (told_from (judge_in b) (some_in b) (all_in b) (recording_at b)) f in
-      let same = (same_break NoBoard (recording_at b) (broken reason (recording_at b)) (sym (ap (λ (y : Told). y.end) s) ∙ ap (λ (y : Told). y.end) t)).0 in
+      let s = ap (transcript_from (judge_in b) (some_in b) (all_in b) (recording_at b)) f in
+      let same = (same_break NoBoard (recording_at b) (fault_at reason (recording_at b)) (sym (ap (λ (y : Transcript). y.end) s) ∙ ap (λ (y : Transcript). y.end) t)).0 in
       cc
 
   -- And so it is on a board.
-  on_board : (n k : ℕ) (rest : List ℕ) → rest ≡ drop 3 bytes → RefusedIn (told_on (judge_in b) (some_in b) (all_in b) n k (new_state (carrying (judge_in b) n)) (recording_at b + 3) rest)
+  on_board : (n k : ℕ) (rest : List ℕ) → rest ≡ drop 3 bytes → RefusedIn (transcript_on (judge_in b) (some_in b) (all_in b) n k (new_state (carrying (judge_in b) n)) (recording_at b + 3) rest)
   on_board n k rest three e place is c cs h p =
       let M = carrying (judge_in b) n in
       let z = sized (judge_in b) n k most_marks in
@@ -106,15 +106,15 @@ module _ (b : List ℕ) where
       let tail = drop (3 * length all) rest in
       let left = travelling (state_from M z (new_state M) all).posts k in
       let end = recording_at b + 3 + 3 * length all in
-      broken_impossible M z rest (recording_at b + 3) (closed left end (first_command tail)) e place (closed_refuses left end (first_command tail) e place (λ h. (begins tail (Err (Refused e)) h).1)) is c cs
+      broken_impossible M z rest (recording_at b + 3) (end_after_calls left end (first_command tail)) e place (end_after_calls-refuses_nothing left end (first_command tail) e place (λ h. (begins tail (Err (Refused e)) h).1)) is c cs
       (λ i at. ap calls_in (there i at) ∙ h) p
     where
       there : (i : ℕ) → place ≡ recording_at b + 3 + i → drop i rest ≡ drop place b
       there i at = ap (drop i) three ∙ drop-drop i 3 bytes ∙ drop-drop (3 + i) (recording_at b) b ∙ ap (λ (j : ℕ). drop j b) (omega arith)
 
   -- A call that is refused, where a recording breaks off, is none that could come next.
-  pub refused : RefusedIn (told_in b)
-  refused = elim (told_cases (judge_in b) (some_in b) (all_in b) (recording_at b) bytes) [
+  pub refused : RefusedIn (transcript_in b)
+  refused = elim (transcript_cases (judge_in b) (some_in b) (all_in b) (recording_at b) bytes) [
     | inl (reason, t) ↦ subst RefusedIn (sym t) (on_nothing reason t)
     | inr (n, k, rest, f, _, t) ↦ subst RefusedIn (sym t) (on_board n k rest (let (none, x, same, whatever) = begins bytes _ f in sym (ap (drop 3) same)))
   ]

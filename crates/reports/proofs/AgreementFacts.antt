@@ -21,13 +21,13 @@ use Rattle.measures.specs.Worths.{carrying, sized}
 use Rattle.reports.specs.declared.lines.MarkLine.{MarkLine}
 use Rattle.reports.specs.Commands.{calls_in}
 use Rattle.reports.specs.Laws.{SameFront, lines_of, ReportsAgree}
-use Rattle.reports.specs.Recordings.{Told, line, lines, told}
-use Rattle.reports.specs.Reports.{front_fault, recording_at, judge_in, some_in, all_in, told_in}
-use Rattle.reports.proofs.Judging.{sets_tell}
-use Rattle.reports.proofs.Leaving.{left_counted}
-use Rattle.reports.proofs.Reading.{reads, reads_ok}
-use Rattle.reports.proofs.Sizes.{same_answers}
-use Rattle.reports.proofs.Telling.{told_by}
+use Rattle.reports.specs.Recordings.{Transcript, line, lines, transcript}
+use Rattle.reports.specs.Reports.{front_fault, recording_at, judge_in, some_in, all_in, transcript_in}
+use Rattle.reports.proofs.VerdictFacts.{sets_tell}
+use Rattle.reports.proofs.EndFacts.{left_counted}
+use Rattle.reports.proofs.TranscriptFacts.{reads, reads_ok}
+use Rattle.reports.proofs.SizeFacts.{same_answers}
+use Rattle.reports.proofs.MarkLineFacts.{transcript_by_cases}
 
 module _ (m : Meaning ℕ) (some all : ℕ → Bool) where
   module _ (u : ℕ) where
@@ -56,14 +56,14 @@ module _ (m : Meaning ℕ) (some all : ℕ → Bool) where
           (λ h c cs x e same. rw e refl)
 
   -- The calls of a telling are all accepted by some board, and its lines are those of the answers to them.
-  abbrev OnBoard : Told → Type 0
+  abbrev OnBoard : Transcript → Type 0
   OnBoard t =
       (n k : ℕ) × (accepted (carrying m n) (sized m n k most_marks) t.calls ≡ t.calls)
       × ((u : ℕ) → lines_of u t.lines ≡ lines_by u (answers_of u t.calls (outcomes (carrying m n) (sized m n k most_marks) t.calls)))
 
   -- So it is of each telling.
-  on_board : (place : ℕ) (bytes : List ℕ) → OnBoard (told m some all place bytes)
-  on_board = told_by m some all OnBoard (λ reason place. (0, 0, refl, λ u. refl)) (λ n k place bytes. (
+  on_board : (place : ℕ) (bytes : List ℕ) → OnBoard (transcript m some all place bytes)
+  on_board = transcript_by_cases m some all OnBoard (λ reason place. (0, 0, refl, λ u. refl)) (λ n k place bytes. (
     n,
     k,
     reads_ok (carrying m n) (sized m n k most_marks) (new_history (carrying m n)) (calls_in bytes),
@@ -71,32 +71,32 @@ module _ (m : Meaning ℕ) (some all : ℕ → Bool) where
   ))
 
   -- Tellings of calls that are the same unit by unit have the same lines of each unit.
-  same_lines : MarksValued m → (s t : Told) → OnBoard s → OnBoard t → SameByUnit s.calls t.calls → (u : ℕ) → lines_of u s.lines ≡ lines_of u t.lines
+  same_lines : MarksValued m → (s t : Transcript) → OnBoard s → OnBoard t → SameByUnit s.calls t.calls → (u : ℕ) → lines_of u s.lines ≡ lines_of u t.lines
   same_lines valued s t (n, k, p, f) (n', k', q, g) same u =
       f u ∙ ap (lines_by u) (same_answers m valued most_marks n k n' k' s.calls t.calls p q same u) ∙ sym (g u)
 
 -- a telling by the parts of a pattern and of a relabelling
-told_of_parts : (states labels start finals : ℕ) (table : List ℕ) (count : ℕ) (entries : List ℕ) → ℕ → List ℕ → Told
-told_of_parts states labels start finals table count entries place bytes =
-    told (relabelled (padded 64 entries) count (state_sets states labels start (padded 4096 table))) (λ set. meets set finals) (λ set. within set finals) place bytes
+transcript_of_parts : (states labels start finals : ℕ) (table : List ℕ) (count : ℕ) (entries : List ℕ) → ℕ → List ℕ → Transcript
+transcript_of_parts states labels start finals table count entries place bytes =
+    transcript (relabelled (padded 64 entries) count (state_sets states labels start (padded 4096 table))) (λ set. meets set finals) (λ set. within set finals) place bytes
 
 -- equal parts, equal tellings
 same_parts : {states states' labels labels' start start' finals finals' count count' : ℕ} {table table' entries entries' : List ℕ}
     → states ≡ states' → labels ≡ labels' → start ≡ start' → finals ≡ finals' → table ≡ table' → count ≡ count' → entries ≡ entries' → (place : ℕ) (bytes : List ℕ)
-    → told_of_parts states labels start finals table count entries place bytes ≡ told_of_parts states' labels' start' finals' table' count' entries' place bytes
+    → transcript_of_parts states labels start finals table count entries place bytes ≡ transcript_of_parts states' labels' start' finals' table' count' entries' place bytes
 same_parts a b c d e f g place bytes = cc
 
 -- Inputs with the same pattern and the same relabelling are told alike.
-pub told_alike : (b d : List ℕ) → SameFront b d → (place : ℕ) (bytes : List ℕ)
-    → told (judge_in b) (some_in b) (all_in b) place bytes ≡ told (judge_in d) (some_in d) (all_in d) place bytes
-unfolding told_of_parts
-told_alike b d same place bytes = same_parts same.states same.labels same.start same.finals same.table same.count same.entries place bytes
+pub transcript-same_front : (b d : List ℕ) → SameFront b d → (place : ℕ) (bytes : List ℕ)
+    → transcript (judge_in b) (some_in b) (all_in b) place bytes ≡ transcript (judge_in d) (some_in d) (all_in d) place bytes
+unfolding transcript_of_parts
+transcript-same_front b d same place bytes = same_parts same.states same.labels same.start same.finals same.table same.count same.entries place bytes
 
 -- Reports on recordings with the same pattern and relabelling and the same accepted calls unit by unit agree, whatever the sizes of their boards.
-pub reports_agree : (b d : List ℕ) → front_fault d ≡ None → SameFront b d → SameByUnit (told_in b).calls (told_in d).calls → ReportsAgree b d
+pub reports_agree : (b d : List ℕ) → front_fault d ≡ None → SameFront b d → SameByUnit (transcript_in b).calls (transcript_in d).calls → ReportsAgree b d
 reports_agree b d sound front same = record {
-  lines = same_lines (judge_in d) (some_in d) (all_in d) (λ n k limit cs u i l e. (sets_tell d sound n k limit cs u i l e).0) (told_in b) (told_in d)
-      (subst (OnBoard (judge_in d) (some_in d) (all_in d)) (sym (told_alike b d front (recording_at b) (drop (recording_at b) b)))
+  lines = same_lines (judge_in d) (some_in d) (all_in d) (λ n k limit cs u i l e. (sets_tell d sound n k limit cs u i l e).0) (transcript_in b) (transcript_in d)
+      (subst (OnBoard (judge_in d) (some_in d) (all_in d)) (sym (transcript-same_front b d front (recording_at b) (drop (recording_at b) b)))
       (on_board (judge_in d) (some_in d) (all_in d) (recording_at b) (drop (recording_at b) b)))
       (on_board (judge_in d) (some_in d) (all_in d) (recording_at d) (drop (recording_at d) d)) same;
   left = λ x y p q. how_many_one x y
