@@ -2,7 +2,6 @@
 use Rattle.std.proofs.Common.{◌≡◌, ℕ, ◌==◌, Bool, if◌then◌else◌, List, [], ◌∷◌, ◌++◌, drop, None, sym, refl, ap, ◌∙◌, subst, inl, inr}
 use Rattle.std.proofs.Math.Path.{fun_ext}
 use Rattle.std.proofs.lemmas.Bool.{cases_eq, eq-eqb, ne_eqb}
-use Rattle.bitset.specs.Sets.{meets, within}
 use Rattle.history.specs.Board.{History, Answer, own_clock, marked, new_history, acted, answer_to, outcomes_from, outcomes, accepted}
 use Rattle.history.specs.Counting.{HowMany}
 use Rattle.history.specs.Events.{Logs, at, Sent, Received}
@@ -12,11 +11,8 @@ use Rattle.history.specs.Runs.{Size, Call, SameByUnit}
 use Rattle.history.proofs.Lists.{how_many_one}
 use Rattle.history.proofs.Runs.{by_calls}
 use Rattle.history.specs.Limits.{most_marks}
-use Rattle.measures.specs.Automata.{state_sets}
-use Rattle.measures.specs.Formats.{padded}
 use Rattle.measures.specs.Laws.{MarksValued}
 use Rattle.measures.specs.Measures.{Meaning}
-use Rattle.measures.specs.Relabellings.{relabelled}
 use Rattle.measures.specs.Worths.{carrying, sized}
 use Rattle.reports.specs.declared.lines.MarkLine.{MarkLine}
 use Rattle.reports.specs.Commands.{calls_in}
@@ -25,6 +21,8 @@ use Rattle.reports.specs.Recordings.{Transcript, line, lines, transcript}
 use Rattle.reports.specs.Reports.{front_fault, recording_at, judge_in, some_in, all_in, transcript_in}
 use Rattle.reports.proofs.VerdictFacts.{sets_tell}
 use Rattle.reports.proofs.EndFacts.{left_counted}
+use Rattle.reports.proofs.ReportFacts.{transcript_in-is}
+use Rattle.reports.proofs.SameFrontFacts.{SameJudge, front_judge}
 use Rattle.reports.proofs.TranscriptFacts.{reads, reads_ok}
 use Rattle.reports.proofs.SizeFacts.{same_answers}
 use Rattle.reports.proofs.MarkLineFacts.{transcript_by_cases}
@@ -75,28 +73,15 @@ module _ (m : Meaning ℕ) (some all : ℕ → Bool) where
   same_lines valued s t (n, k, p, f) (n', k', q, g) same u =
       f u ∙ ap (lines_by u) (same_answers m valued most_marks n k n' k' s.calls t.calls p q same u) ∙ sym (g u)
 
--- a telling by the parts of a pattern and of a relabelling
-transcript_of_parts : (states labels start finals : ℕ) (table : List ℕ) (count : ℕ) (entries : List ℕ) → ℕ → List ℕ → Transcript
-transcript_of_parts states labels start finals table count entries place bytes =
-    transcript (relabelled (padded 64 entries) count (state_sets states labels start (padded 4096 table))) (λ set. meets set finals) (λ set. within set finals) place bytes
-
--- equal parts, equal tellings
-same_parts : {states states' labels labels' start start' finals finals' count count' : ℕ} {table table' entries entries' : List ℕ}
-    → states ≡ states' → labels ≡ labels' → start ≡ start' → finals ≡ finals' → table ≡ table' → count ≡ count' → entries ≡ entries' → (place : ℕ) (bytes : List ℕ)
-    → transcript_of_parts states labels start finals table count entries place bytes ≡ transcript_of_parts states' labels' start' finals' table' count' entries' place bytes
-same_parts a b c d e f g place bytes = cc
-
--- Inputs with the same pattern and the same relabelling are told alike.
-pub transcript-same_front : (b d : List ℕ) → SameFront b d → (place : ℕ) (bytes : List ℕ)
-    → transcript (judge_in b) (some_in b) (all_in b) place bytes ≡ transcript (judge_in d) (some_in d) (all_in d) place bytes
-unfolding transcript_of_parts
-transcript-same_front b d same place bytes = same_parts same.states same.labels same.start same.finals same.table same.count same.entries place bytes
+-- What an input comes to is what its recording does under the judge of another, if that is the same.
+judged_by : (b d : List ℕ) → SameJudge b d → transcript (judge_in d) (some_in d) (all_in d) (recording_at b) (drop (recording_at b) b) ≡ transcript_in b
+judged_by b d same = transcript_in-is b _ _ _ (sym same.meaning) (sym same.some) (sym same.all) (recording_at b) _ refl refl
 
 -- Reports on recordings with the same pattern and relabelling and the same accepted calls unit by unit agree, whatever the sizes of their boards.
 pub reports_agree : (b d : List ℕ) → front_fault d ≡ None → SameFront b d → SameByUnit (transcript_in b).calls (transcript_in d).calls → ReportsAgree b d
 reports_agree b d sound front same = record {
   lines = same_lines (judge_in d) (some_in d) (all_in d) (λ n k limit cs u i l e. (sets_tell d sound n k limit cs u i l e).0) (transcript_in b) (transcript_in d)
-      (subst (OnBoard (judge_in d) (some_in d) (all_in d)) (sym (transcript-same_front b d front (recording_at b) (drop (recording_at b) b)))
+      (subst (OnBoard (judge_in d) (some_in d) (all_in d)) (judged_by b d (front_judge b d front))
       (on_board (judge_in d) (some_in d) (all_in d) (recording_at b) (drop (recording_at b) b)))
       (on_board (judge_in d) (some_in d) (all_in d) (recording_at d) (drop (recording_at d) d)) same;
   left = λ x y p q. how_many_one x y

@@ -1,23 +1,9 @@
--- Pieces of text that are put in place.
+-- The decimal digits of numbers, two by two.
 use Rattle.std.proofs.Common.{◌≡◌, ℕ, zero, suc, ◌+◌, ◌*◌, ◌/◌, ◌%◌, ◌^◌, ◌<◌, ◌≤◌, Bool, true, ◌==◌, ◌&&◌, List, ◌++◌, length, take, drop, decimal, slice_index, refl, sym, ap, ◌∙◌, arith, inl, inr, eqb-true, append_assoc, length-append}
-use Rattle.std.proofs.Math.Seq.{take-add, take-append_seam}
 use Rattle.std.proofs.lemmas.Bool.{and_parts, cases_lt}
-use Rattle.std.proofs.lemmas.List.{take-take}
 use Rattle.std.proofs.lemmas.Fmt.{decimal_digit, decimal_step}
 use Rattle.reports.specs.declared.buffers.TheConstants.{DECIMAL_PAIRS}
 use Rattle.reports.specs.Pages.{two}
-
--- A piece that is written from its end stands after the text before it.
-pub put_from_end : (old new piece rest : List ℕ) (at : ℕ) → take at new ≡ take at old → drop at new ≡ piece ++ rest → take (at + length piece) new ≡ take at old ++ piece
-put_from_end old new piece rest at before written =
-    take-add at (length piece) new
-    ∙ ap (λ (t : List ℕ). t ++ take (length piece) (drop at new)) before
-    ∙ ap (λ (t : List ℕ). take at old ++ take (length piece) t) written
-    ∙ ap (λ (t : List ℕ). take at old ++ t) (take-append_seam piece rest)
-
--- Texts that are the same so far were the same before.
-pub take_shorter : (xs ys : List ℕ) (m n : ℕ) → m ≤ n → take n xs ≡ take n ys → take m xs ≡ take m ys
-take_shorter xs ys m n h e = sym (take-take m n xs h) ∙ ap (λ (t : List ℕ). take m t) e ∙ take-take m n ys h
 
 -- whether the table has the decimal digits of each number below n
 abbrev same_below : ℕ → Bool

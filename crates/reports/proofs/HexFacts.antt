@@ -1,11 +1,20 @@
--- The digits of a byte in the table of pairs, and of the bytes of a word.
-use Rattle.std.proofs.Common.{◌≡◌, ℕ, zero, suc, ◌+◌, ◌*◌, ◌/◌, ◌%◌, ◌^◌, ◌<◌, Bool, true, ◌==◌, ◌&&◌, ◌∷◌, ◌++◌, List, get_or, slice_index, arith, add-zero, zero-add, refl, ap, ap₂, sym, ◌∙◌, inl, inr, eqb-true}
+-- The hexadecimal digits of a byte in the table of pairs, and of the bytes of a word, which are put in place from its end.
+use Rattle.std.proofs.Common.{◌≡◌, ℕ, zero, suc, ◌+◌, ◌*◌, ◌/◌, ◌%◌, ◌^◌, ◌<◌, Bool, true, ◌==◌, ◌&&◌, ◌∷◌, ◌++◌, List, length, take, drop, get_or, slice_index, arith, add-zero, zero-add, refl, ap, ap₂, sym, ◌∙◌, inl, inr, eqb-true}
+use Rattle.std.proofs.Math.Seq.{take-add, take-append_seam}
 use Rattle.std.proofs.Math.Nat.{div-div-eq-div-mul, pow-suc}
 use Rattle.std.proofs.lemmas.Bool.{and_parts, cases_lt}
 use Rattle.std.specs.Int.{w64, byte_at, bytes_low_first, to_le_bytes}
 use Rattle.text.specs.Hex.{digit_in_hex, hex}
 use Rattle.text.proofs.HexText.{byte_is}
 use Rattle.reports.specs.declared.buffers.TheConstants.{HEX_PAIRS}
+
+-- A piece that is written from its end stands after the text before it.
+pub put_from_end : (old new piece rest : List ℕ) (at : ℕ) → take at new ≡ take at old → drop at new ≡ piece ++ rest → take (at + length piece) new ≡ take at old ++ piece
+put_from_end old new piece rest at before written =
+    take-add at (length piece) new
+    ∙ ap (λ (t : List ℕ). t ++ take (length piece) (drop at new)) before
+    ∙ ap (λ (t : List ℕ). take at old ++ take (length piece) t) written
+    ∙ ap (λ (t : List ℕ). take at old ++ t) (take-append_seam piece rest)
 
 -- whether the table has the digits of each byte below n
 abbrev same_below : ℕ → Bool

@@ -13,6 +13,7 @@ mod LineFacts
 mod MakingFacts
 mod MarkLineFacts
 mod PartFacts
+mod PrefixFacts
 mod QuestionFacts
 mod RefusalFacts
 mod ReportFacts

@@ -13,7 +13,7 @@ use Rattle.history.specs.Runs.{Size, Call, call, Possible, Run, by_unit, events_
 use Rattle.history.specs.Limits.{most_marks}
 use Rattle.causality.specs.Boards.{make_refusal}
 use Rattle.measures.specs.Acceptance.{state_after, accepts}
-use Rattle.measures.specs.Formats.{states_in, labels_in, start_in, finals_in, table_in, relabelling_labels_in, entries_in, padded}
+use Rattle.measures.specs.Formats.{labels_in, entries_in, padded}
 use Rattle.measures.specs.Laws.{Judged}
 use Rattle.measures.specs.Relabellings.{translated}
 use Rattle.measures.specs.Words.{Word}
@@ -52,15 +52,10 @@ pub record Tells (b : List ℕ) (ev : Events) (u i : ℕ) (line : MarkLine) : Ty
   pub states_are : (q : ℕ) → Member q line.states ↔ ((f : List Place) × Longest ev u i f × (state_after b (in_pattern b (word ev f)) ≡ q))
   pub verdict : Judged (λ w. IsTrue (accepts b (in_pattern b w))) line.some line.all ev u i
 
--- Two inputs have the same pattern and the same relabelling.
+-- Two inputs have the same front: the same bytes before their recordings, which are the pattern and the relabelling.
 pub record SameFront (b d : List ℕ) : Type 0 where
-  pub states : states_in b ≡ states_in d
-  pub labels : labels_in b ≡ labels_in d
-  pub start : start_in b ≡ start_in d
-  pub finals : finals_in b ≡ finals_in d
-  pub table : table_in b ≡ table_in d
-  pub count : relabelling_labels_in b (relabelling_at b) ≡ relabelling_labels_in d (relabelling_at d)
-  pub entries : entries_in b (relabelling_at b) ≡ entries_in d (relabelling_at d)
+  pub begins : recording_at b ≡ recording_at d
+  pub bytes : take (recording_at b) b ≡ take (recording_at d) d
 
 -- the lines of unit u
 abbrev pub lines_of : ℕ → List MarkLine → List MarkLine
