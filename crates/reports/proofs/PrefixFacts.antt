@@ -1,5 +1,5 @@
 -- Inputs, or other lists of numbers, whose first bytes are the same.
-use Rattle.std.proofs.Common.{◌≡◌, ℕ, ◌+◌, ◌-◌, ◌<◌, ◌≤◌, List, length, drop, take, get_or, slice_index, sym, ap, ◌∙◌, arith, length-take}
+use Rattle.std.proofs.Common.{◌≡◌, ℕ, suc, ◌+◌, ◌-◌, ◌<◌, ◌≤◌, List, [], ◌∷◌, length, drop, take, get_or, slice_index, sym, ap, ◌∙◌, arith, length-take}
 use Rattle.std.proofs.lemmas.List.{get_or-take, drop-take, take-take}
 
 -- Two inputs have the same first p bytes.
@@ -19,6 +19,11 @@ bytes_inside : (p : ℕ) (b : List ℕ) (i n : ℕ) → i + n ≤ p → take n (
 bytes_inside p b i n inside =
     let at : i + (p - i) ≡ p = omega arith in
     ap (λ (q : ℕ). take n (drop i (take q b))) (sym at) ∙ ap (λ (l : List ℕ). take n l) (drop-take i (p - i) b) ∙ take-take n (p - i) (drop i b) (omega arith)
+
+-- Lists that agree on one byte more than others begin with it, and the others agree.
+pub agree_rest : (a : ℕ) (rest other : List ℕ) (n : ℕ) → AgreeTo (suc n) (a ∷ rest) other → (more : List ℕ) × (other ≡ a ∷ more) × AgreeTo n rest more
+agree_rest a rest [] n agree = let bytes = agree.bytes in absurd (cc)
+agree_rest a rest (x ∷ more) n agree = let bytes = agree.bytes in (more, cc, record { bytes = cc })
 
 module _ (p : ℕ) (b d : List ℕ) (agree : AgreeTo p b d) where
   -- The byte i is the same,

@@ -1,5 +1,5 @@
 -- Where a recording breaks off, its part before the break comes to the same calls and lines.
-use Rattle.std.proofs.Common.{◌≡◌, ℕ, ◌+◌, ◌≤◌, Bool, List, [], ◌∷◌, length, take, Ok, Err, Result, Some, None, Option, refl, sym, ap, ◌∙◌, subst, inl, inr, arith}
+use Rattle.std.proofs.Common.{◌≡◌, ℕ, ◌+◌, ◌≤◌, Bool, List, [], ◌∷◌, length, drop, Ok, Err, Result, Some, None, Option, refl, sym, ap, ◌∙◌, subst, inl, inr, arith}
 use Rattle.history.specs.declared.refusals.Refusal.{Refusal}
 use Rattle.history.specs.Board.{State, Answer, next, new_state, outcome}
 use Rattle.history.specs.Events.{Event}
@@ -19,6 +19,7 @@ use Rattle.reports.specs.Recordings.{Transcript, end_after_calls, line, transcri
 use Rattle.reports.proofs.CallFacts.{end_transcript, transcript_with, transcript_on-no_call, transcript_on-refused, transcript_on-accepted}
 use Rattle.reports.proofs.CutFacts.{Cut, Silent, same_break, silent_cut, later_cut}
 use Rattle.reports.proofs.FirstCommandFacts.{begins}
+use Rattle.reports.proofs.PrefixFacts.{AgreeTo, agree_rest}
 use Rattle.reports.proofs.TranscriptFacts.{transcript_cases}
 
 module _ (m : Meaning ℕ) (some all : ℕ → Bool) where
@@ -27,17 +28,18 @@ module _ (m : Meaning ℕ) (some all : ℕ → Bool) where
     on s place bytes = transcript_on m some all n k s place bytes
 
     module _ (s : State ℕ) (place : ℕ) (f : RecordingFault) where
-      -- what has no call breaks off where the bytes before the break have none
-      silent_on : (bytes : List ℕ) (size : ℕ) (end : Result ℕ RecordingFault) → f.place ≡ place + size → size ≤ length bytes → Silent (on s place (take size bytes))
-          → on s place bytes ≡ end_transcript n k end → Cut (on s place) place bytes f
-      silent_on bytes size end at fits before is =
-          silent_cut (on s place) place bytes f size at fits before (ap (λ (t : Transcript). t.calls) is, ap (λ (t : Transcript). t.lines) is)
+      -- what has no call breaks off where all that agree so far come to what their further bytes do
+      silent_on : (bytes : List ℕ) (size : ℕ) (end : Result ℕ RecordingFault) (further : List ℕ → Transcript) → f.place ≡ place + size → size ≤ length bytes
+          → on s place bytes ≡ end_transcript n k end → Silent (further []) → ((other : List ℕ) → AgreeTo size bytes other → on s place other ≡ further (drop size other))
+          → Cut (on s place) place bytes f
+      silent_on bytes size end further at within is no_more same =
+          silent_cut (on s place) further place bytes f size at within (ap (λ (t : Transcript). t.calls) is, ap (λ (t : Transcript). t.lines) is) no_more same
 
       -- so it does at once
       at_once : (bytes : List ℕ) (r : Reason) → on s place bytes ≡ end_transcript n k (Err (fault_at r place)) → (on s place bytes).end ≡ Err f → Cut (on s place) place bytes f
       at_once bytes r is ends =
           let at = (same_break r place f (sym (ap (λ (t : Transcript). t.end) is) ∙ ends)).1 in
-          silent_on bytes 0 (Err (fault_at r place)) (omega arith) (omega arith) (refl, refl) is
+          silent_on bytes 0 (Err (fault_at r place)) (on s place) (omega arith) (omega arith) is (refl, refl) (λ other agree. refl)
 
       -- bytes that begin with no call break off at once, or after an end
       bare : (bytes : List ℕ) → calls_in bytes ≡ [] → (on s place bytes).end ≡ Err f → Cut (on s place) place bytes f
@@ -52,7 +54,9 @@ module _ (m : Meaning ℕ) (some all : ℕ → Bool) where
           by_first [] (Ok (commands.End, y ∷ ys)) first is ends = absurd (cc)
           by_first (b ∷ rest) (Ok (commands.End, y ∷ ys)) first is ends =
               let at = (same_break BytesAfterEnd (place + 1) f (sym (ap (λ (t : Transcript). t.end) is) ∙ ends)).1 in
-              silent_on (b ∷ rest) 1 _ (sym at) (omega arith) (refl, refl) is
+              silent_on (b ∷ rest) 1 _ (λ l. on s place (b ∷ l)) (sym at) (omega arith) is (refl, refl) (λ other agree.
+              (let (more, same, rest_agrees) = agree_rest b rest other 0 agree in
+              ap (on s place) same ∙ ap (λ (l : List ℕ). on s place (b ∷ drop 1 l)) (sym same)))
 
     -- whatever the state, and wherever they begin, these bytes break off so
     abbrev Breaking : List ℕ → RecordingFault → Type 0
@@ -86,7 +90,8 @@ module _ (m : Meaning ℕ) (some all : ℕ → Bool) where
   transcript_cut place bytes f ends = elim (transcript_cases m some all place bytes) [
     | inl (reason, is) ↦
         let at = (same_break reason place f (sym (ap (λ (t : Transcript). t.end) is) ∙ ends)).1 in
-        silent_cut (transcript m some all place) place bytes f 0 (omega arith) (omega arith) (refl, refl) (ap (λ (t : Transcript). t.calls) is, ap (λ (t : Transcript). t.lines) is)
+        silent_cut (transcript m some all place) (transcript m some all place) place bytes f 0 (omega arith) (omega arith)
+        (ap (λ (t : Transcript). t.calls) is, ap (λ (t : Transcript). t.lines) is) (refl, refl) (λ other agree. refl)
     | inr (n, k, rest, first, good, is) ↦
         let (none, b, same, whatever) = begins bytes _ first in
         let further = transcript_on m some all n k (new_state (carrying m n)) (place + 3) in
