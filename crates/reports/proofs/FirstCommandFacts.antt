@@ -8,7 +8,7 @@ use Rattle.reports.specs.declared.commands.Command.{Command}
 use Rattle.reports.specs.declared.commands.Command.TheVariants.{Make, Call, End}
 use Rattle.reports.specs.declared.faults.Reason.{Reason}
 use Rattle.reports.specs.declared.faults.Reason.TheVariants.{NoByte, NoCommand, NoOperands}
-use Rattle.reports.specs.Commands.{first_command, calls_in}
+use Rattle.reports.specs.Commands.{make_byte, send_byte, receive_byte, mark_byte, end_byte, first_command, calls_in}
 
 -- whether bytes can be no whole command for this reason
 abbrev pub OfForm : Reason → Type 0
@@ -31,52 +31,52 @@ abbrev FirstBegins : List ℕ → Type 0
 FirstBegins bytes = Begins bytes (first_command bytes)
 
 -- a making, and the three kinds of calls
-begins_make : (rest : List ℕ) → FirstBegins (0x10 ∷ rest)
+begins_make : (rest : List ℕ) → FirstBegins (make_byte ∷ rest)
 begins_make [] = (refl, tt)
 begins_make (n ∷ []) = (refl, tt)
-begins_make (n ∷ (k ∷ rest)) = (refl, 0x10, refl, λ zs. refl)
+begins_make (n ∷ (k ∷ rest)) = (refl, make_byte, refl, λ zs. refl)
 
-begins_send : (rest : List ℕ) → FirstBegins (0x01 ∷ rest)
+begins_send : (rest : List ℕ) → FirstBegins (send_byte ∷ rest)
 begins_send [] = (refl, tt)
 begins_send (u ∷ []) = (refl, tt)
-begins_send (u ∷ (m ∷ rest)) = (0x01, m, refl, refl)
+begins_send (u ∷ (m ∷ rest)) = (send_byte, m, refl, refl)
 
-begins_receive : (rest : List ℕ) → FirstBegins (0x02 ∷ rest)
+begins_receive : (rest : List ℕ) → FirstBegins (receive_byte ∷ rest)
 begins_receive [] = (refl, tt)
 begins_receive (u ∷ []) = (refl, tt)
-begins_receive (u ∷ (m ∷ rest)) = (0x02, m, refl, refl)
+begins_receive (u ∷ (m ∷ rest)) = (receive_byte, m, refl, refl)
 
-begins_mark : (rest : List ℕ) → FirstBegins (0x03 ∷ rest)
+begins_mark : (rest : List ℕ) → FirstBegins (mark_byte ∷ rest)
 begins_mark [] = (refl, tt)
 begins_mark (u ∷ []) = (refl, tt)
-begins_mark (u ∷ (l ∷ rest)) = (0x03, l, refl, refl)
+begins_mark (u ∷ (l ∷ rest)) = (mark_byte, l, refl, refl)
 
 -- the end
-begins_end : (rest : List ℕ) → FirstBegins (0x00 ∷ rest)
+begins_end : (rest : List ℕ) → FirstBegins (end_byte ∷ rest)
 begins_end [] = refl
 begins_end (u ∷ []) = refl
 begins_end (u ∷ (x ∷ rest)) = refl
 
 -- any other byte
-module _ (b : ℕ) (no_make : b ≡ 0x10 → ⊥) (no_send : b ≡ 0x01 → ⊥) (no_receipt : b ≡ 0x02 → ⊥) (no_mark : b ≡ 0x03 → ⊥) (no_end : b ≡ 0x00 → ⊥) where
+module _ (b : ℕ) (no_make : b ≡ make_byte → ⊥) (no_send : b ≡ send_byte → ⊥) (no_receipt : b ≡ receive_byte → ⊥) (no_mark : b ≡ mark_byte → ⊥) (no_end : b ≡ end_byte → ⊥) where
   no_command : (rest : List ℕ) → first_command (b ∷ rest) ≡ Err NoCommand
-  no_command rest = rw (ne_eqb b 0x10 no_make, ne_eqb b 0x01 no_send, ne_eqb b 0x02 no_receipt, ne_eqb b 0x03 no_mark, ne_eqb b 0x00 no_end) refl
+  no_command rest = rw (ne_eqb b make_byte no_make, ne_eqb b send_byte no_send, ne_eqb b receive_byte no_receipt, ne_eqb b mark_byte no_mark, ne_eqb b end_byte no_end) refl
 
   no_calls : (rest : List ℕ) → calls_in (b ∷ rest) ≡ []
   no_calls [] = refl
   no_calls (u ∷ []) = refl
-  no_calls (u ∷ (x ∷ rest)) = rw (ne_eqb b 0x01 no_send, ne_eqb b 0x02 no_receipt, ne_eqb b 0x03 no_mark) refl
+  no_calls (u ∷ (x ∷ rest)) = rw (ne_eqb b send_byte no_send, ne_eqb b receive_byte no_receipt, ne_eqb b mark_byte no_mark) refl
 
   begins_other : (rest : List ℕ) → FirstBegins (b ∷ rest)
   begins_other rest = subst (Begins (b ∷ rest)) (sym (no_command rest)) (no_calls rest, tt)
 
 by_byte : (b : ℕ) (rest : List ℕ) → FirstBegins (b ∷ rest)
 by_byte b rest =
-    unless 0x10 (begins_make rest) (λ no_make.
-    unless 0x01 (begins_send rest) (λ no_send.
-    unless 0x02 (begins_receive rest) (λ no_receipt.
-    unless 0x03 (begins_mark rest) (λ no_mark.
-    unless 0x00 (begins_end rest) (λ no_end. begins_other b no_make no_send no_receipt no_mark no_end rest)))))
+    unless make_byte (begins_make rest) (λ no_make.
+    unless send_byte (begins_send rest) (λ no_send.
+    unless receive_byte (begins_receive rest) (λ no_receipt.
+    unless mark_byte (begins_mark rest) (λ no_mark.
+    unless end_byte (begins_end rest) (λ no_end. begins_other b no_make no_send no_receipt no_mark no_end rest)))))
   where
     unless : (v : ℕ) → FirstBegins (v ∷ rest) → ((b ≡ v → ⊥) → FirstBegins (b ∷ rest)) → FirstBegins (b ∷ rest)
     unless v here else_so = elim (cases_eq b v) [ inl e ↦ subst (λ (a : ℕ). FirstBegins (a ∷ rest)) (sym e) here | inr other ↦ else_so other ]

@@ -17,7 +17,7 @@ use Rattle.reports.specs.Commands.{first_command}
 use Rattle.reports.specs.Faults.{fault_at}
 use Rattle.reports.specs.Lines.{mark_lines}
 use Rattle.reports.specs.Recordings.{Transcript, transcript_of_board, transcript_on, transcript_from, transcript}
-use Rattle.reports.specs.Steps.{Wrote}
+use Rattle.reports.specs.Steps.{Wrote, WroteOn}
 
 and_false : (b : Bool) → (b && false) ≡ false
 and_false true = refl
@@ -63,11 +63,11 @@ module _ (m : Meaning ℕ) (some all : ℕ → Bool) (place : ℕ) (bytes rest :
       → Wrote old new (transcript m some all place bytes) result
   board_made is old new result tells = subst (λ (t : Transcript). Wrote old new t result) (sym (by_board None is)) tells
 
--- What is told on a board is told by the judge, and of the size, that it was made with.
+-- What was written on a board is written by the judge, and of the size, that it was made with.
 pub made_with : {J : Type 0} (meaning : J → Meaning ℕ) (some all : J → ℕ → Bool) (judge measure : J) → measure ≡ judge → (n units : ℕ) → units ≡ n → (k messages : ℕ) → messages ≡ k
     → (memory : Memory ℕ) (old new : List ℕ) (place : ℕ) (rest : List ℕ) (result : Result ℕ RecordingFault)
-    → ((s : State ℕ) → Shows (meaning measure).start units messages memory s → Wrote old new (transcript_on (meaning measure) (some measure) (all measure) units messages s place rest) result)
-    → (s : State ℕ) → Shows (meaning judge).start n k memory s → Wrote old new (transcript_on (meaning judge) (some judge) (all judge) n k s place rest) result
-made_with {J} meaning some all judge measure same n units un k messages mk memory old new place rest result tells s =
-    let Owed : J → ℕ → ℕ → Type 0 = λ j u p. Shows (meaning j).start u p memory s → Wrote old new (transcript_on (meaning j) (some j) (all j) u p s place rest) result in
-    subst (λ (j : J). Owed j n k) same (subst (λ (u : ℕ). Owed measure u k) un (subst (λ (p : ℕ). Owed measure units p) mk (tells s)))
+    → WroteOn meaning some all measure units messages memory place rest old new result → WroteOn meaning some all judge n k memory place rest old new result
+made_with {J} meaning some all judge measure same n units un k messages mk memory old new place rest result wrote =
+    subst (λ (j : J). WroteOn meaning some all j n k memory place rest old new result) same
+    (subst (λ (u : ℕ). WroteOn meaning some all measure u k memory place rest old new result) un
+    (subst (λ (p : ℕ). WroteOn meaning some all measure units p memory place rest old new result) mk wrote))

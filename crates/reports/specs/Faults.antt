@@ -1,4 +1,4 @@
--- The faults that end a report, each with the letter of its layer, its number and its place.
+-- The faults that end a report, each with its layer, its number and its place.
 use Rattle.std.specs.Prelude.{ℕ, List, codes}
 use Rattle.history.specs.Refusals as board
 use Rattle.measures.specs.Refusals as readers
@@ -19,7 +19,7 @@ reason_number SecondBoard = 27
 reason_number BytesAfterEnd = 28
 reason_number (Refused r) = board.number r
 
--- the layer that meets it: the board, or the recording's own form
+-- the layer that meets it, as a report writes it: the board, or the recording's own form
 abbrev pub reason_layer : Reason → List ℕ
 reason_layer NoByte = codes "R"
 reason_layer NoCommand = codes "R"
@@ -33,21 +33,25 @@ reason_layer (Refused r) = codes "B"
 abbrev pub fault_at : Reason → ℕ → RecordingFault
 fault_at reason place = record { reason = reason; place = place }
 
--- The letter of the layer that meets each fault: input, pattern, relabelling, recording or board.
+-- The layer that meets each fault, as a report writes it: input, pattern, relabelling, recording or board.
 abbrev pub layer : Fault → List ℕ
 layer TooLong = codes "I"
 layer (Pattern f) = codes "P"
 layer (Relabelling f) = codes "L"
 layer (Recording f) = reason_layer f.reason
 
+-- the number of the fault that an input is too long
+abbrev pub too_long : ℕ
+too_long = 29
+
 -- The number of each fault.
 abbrev pub number : Fault → ℕ
-number TooLong = 29
+number TooLong = too_long
 number (Pattern f) = readers.number f.refusal
 number (Relabelling f) = readers.number f.refusal
 number (Recording f) = reason_number f.reason
 
--- The byte of the input at which each fault is told.
+-- The byte of the input at which each fault is met.
 abbrev pub place : Fault → ℕ
 place TooLong = most_bytes
 place (Pattern f) = f.place

@@ -24,7 +24,7 @@ use Rattle.reports.specs.declared.faults.Reason.{Reason}
 use Rattle.reports.specs.declared.faults.Reason.TheVariants.{NoByte, NoCommand, NoOperands, NoBoard, SecondBoard, BytesAfterEnd, Refused}
 use Rattle.reports.specs.declared.faults.RecordingFault.{RecordingFault}
 use Rattle.reports.specs.declared.lines.MarkLine.{MarkLine}
-use Rattle.reports.specs.Commands.{first_command, calls_in}
+use Rattle.reports.specs.Commands.{call_size, making_size, first_command, calls_in}
 use Rattle.reports.specs.Faults.{fault_at}
 use Rattle.reports.specs.Recordings.{Transcript}
 use Rattle.reports.specs.Reports.{relabelling_at, recording_at, front_fault, judge_in, transcript_in}
@@ -71,7 +71,7 @@ RefusedMaking b place e =
 abbrev pub AfterCalls : List ℕ → ℕ → Type 0
 AfterCalls b place =
     (n : ℕ) × (k : ℕ) × (rest : List ℕ) × (first_command (drop (recording_at b) b) ≡ Ok (commands.Make n k, rest)) × (make_refusal n k true ≡ None)
-    × (place ≡ recording_at b + 3 + 3 * length (transcript_in b).calls)
+    × (place ≡ recording_at b + making_size + call_size * length (transcript_in b).calls)
 
 -- a call that the board refuses after the calls that were read
 abbrev pub RefusedCall : List ℕ → Transcript → ℕ → Refusal → Type 0
@@ -107,7 +107,7 @@ pub record ReportTrue (b : List ℕ) : Type 0 where
   pub refused : (e : Refusal) (place : ℕ) → (transcript_in b).end ≡ Err (fault_at (Refused e) place) → (c : Call) (cs : List Call) → calls_in (drop place b) ≡ c ∷ cs
       → Possible (size_in b) (by_unit (transcript_in b).calls) c.unit c.act → ⊥
   -- where it ends well, they are all calls after the command that makes the board
-  pub all_read : (left : ℕ) → (transcript_in b).end ≡ Ok left → (transcript_in b).calls ≡ calls_in (drop 3 (drop (recording_at b) b))
+  pub all_read : (left : ℕ) → (transcript_in b).end ≡ Ok left → (transcript_in b).calls ≡ calls_in (drop making_size (drop (recording_at b) b))
   -- and after them stands an end, and nothing more
   pub ended : (left : ℕ) → (transcript_in b).end ≡ Ok left → (p : ℕ) × AfterCalls b p × (first_command (drop p b) ≡ Ok (commands.End, []))
   -- there is a line for each mark read, and no other, in the order of the recording
@@ -122,7 +122,7 @@ pub record ReportTrue (b : List ℕ) : Type 0 where
   pub part : (f : RecordingFault) → (transcript_in b).end ≡ Err f
       → (front_fault (take f.place b) ≡ None) × SameFront b (take f.place b) × ((transcript_in (take f.place b)).calls ≡ (transcript_in b).calls) × ((transcript_in (take f.place b)).lines ≡ (transcript_in b).lines)
   -- the calls read are all that stand before the break
-  pub read_to : (f : RecordingFault) → (transcript_in b).end ≡ Err f → (transcript_in b).calls ≡ calls_in (drop (recording_at b + 3) (take f.place b))
+  pub read_to : (f : RecordingFault) → (transcript_in b).end ≡ Err f → (transcript_in b).calls ≡ calls_in (drop (recording_at b + making_size) (take f.place b))
   -- and what stands there is a reason to break off
   pub broke : (f : RecordingFault) → (transcript_in b).end ≡ Err f → Breaks b f.place f.reason
 

@@ -13,7 +13,7 @@ use Rattle.reports.specs.declared.faults.Reason.{Reason}
 use Rattle.reports.specs.declared.faults.Reason.TheVariants.{NoBoard, SecondBoard, BytesAfterEnd, Refused}
 use Rattle.reports.specs.declared.faults.RecordingFault.{RecordingFault}
 use Rattle.reports.specs.declared.lines.MarkLine.{MarkLine}
-use Rattle.reports.specs.Commands.{first_command, calls_in}
+use Rattle.reports.specs.Commands.{call_size, making_size, first_command, calls_in}
 use Rattle.reports.specs.Faults.{fault_at}
 
 -- What a recording comes to: the numbers of units and of messages of the board that it makes, or 0 where it makes none; the calls that were
@@ -39,7 +39,7 @@ end_after_calls left place (Ok (commands.Call c, rest)) = Err (fault_at SecondBo
 -- else it ends as the bytes after the calls say.
 abbrev pub ending : {V : Type 0} → ℕ → List (Result (Answer V) Refusal) → Result ℕ RecordingFault → Result ℕ RecordingFault
 ending place [] closing = closing
-ending place (Ok a ∷ xs) closing = ending (place + 3) xs closing
+ending place (Ok a ∷ xs) closing = ending (place + call_size) xs closing
 ending place (Err e ∷ xs) closing = Err (fault_at (Refused e) place)
 
 -- the calls before the first that is refused
@@ -74,7 +74,7 @@ module _ (m : Meaning ℕ) (some all : ℕ → Bool) where
         messages = k;
         calls = before_refusal cs xs;
         lines = lines cs xs;
-        end = ending place xs (end_after_calls left (place + 3 * length cs) (first_command (drop (3 * length cs) bytes)));
+        end = ending place xs (end_after_calls left (place + call_size * length cs) (first_command (drop (call_size * length cs) bytes)));
       }
 
   -- what breaks off before any call tells nothing
@@ -84,7 +84,7 @@ module _ (m : Meaning ℕ) (some all : ℕ → Bool) where
   -- a recording by its making, which is refused for its size, or makes the board on which the rest is told
   abbrev pub transcript_of_board : ℕ → ℕ → ℕ → List ℕ → Option Refusal → Transcript
   transcript_of_board n k place bytes (Some e) = empty_transcript (Refused e) place
-  transcript_of_board n k place bytes None = transcript_on n k (new_state (carrying m n)) (place + 3) bytes
+  transcript_of_board n k place bytes None = transcript_on n k (new_state (carrying m n)) (place + making_size) bytes
 
   -- a recording by its first command, which begins at a byte of the input
   abbrev pub transcript_from : ℕ → Result (Command × List ℕ) Reason → Transcript

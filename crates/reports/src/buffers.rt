@@ -129,7 +129,8 @@ pub(crate) fn put_decimal(bytes: &mut [u8], at: usize, n: u64) -> usize
 #[inline(always)]
 fn write_pair(bytes: &mut [u8], at: usize, byte: u8)
     requires { at + 2 ≤ length bytes.old }
-    ensures written { drop at bytes.new ≡ digit_in_hex (byte / 16) ∷ digit_in_hex (byte % 16) ∷ drop (at + 2) bytes.old }
+    ensures written { drop at bytes.new
+        ≡ digit_in_hex (byte / 16) ∷ digit_in_hex (byte % 16) ∷ drop (at + 2) bytes.old }
     ensures before { take at bytes.new ≡ take at bytes.old }
 {
     let from = byte as usize * 2;

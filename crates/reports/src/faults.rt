@@ -69,7 +69,7 @@ pub(crate) enum Fault {
 }
 
 impl Fault {
-    // The letter of the layer that meets the fault: input, pattern, relabelling, recording or board.
+    // The layer that meets the fault, by its first byte in a report: input, pattern, relabelling, recording or board.
     pub(crate) fn layer(self) -> u8
         ensures { layer self ≡ result ∷ [] }
     {
@@ -95,7 +95,7 @@ impl Fault {
         }
     }
 
-    // The byte of the input at which it is told.
+    // The byte of the input at which it is met.
     pub(crate) fn place(self) -> usize
         ensures { result ≡ place self }
     {

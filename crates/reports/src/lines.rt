@@ -13,6 +13,9 @@ use std::marker::Model;
 // The longest line is a mark's: three numbers, each counted as 20 digits, 16 hexadecimal digits, and 8 more bytes.
 pub(crate) const MOST_LINE: usize = 84;
 
+// The most bytes of text for each byte of a recording: a mark has a line, and its call three bytes.
+pub(crate) const TEXT_PER_BYTE: usize = 28;
+
 // How many bytes are made ready for lines at a time.
 const STEP: usize = 1024;
 
@@ -113,7 +116,7 @@ fn put_fault(bytes: &mut [u8], at: usize, fault: Fault) -> usize
     put_byte(bytes, at, b'\n')
 }
 
-// Makes bytes ready for a line after the first `len`, where they are not: of memory that is there, so that it cannot fail.
+// Makes bytes ready for a line after the first `len`, where they are not, of memory that is there: so `resize` cannot fail, and `unwrap` is proved.
 #[inline(always)]
 fn make_ready(bytes: &mut Vec<u8>, len: usize)
     requires { (len ≤ length bytes.old.items) × (len + MOST_LINE ≤ vec_capacity bytes.old) }
