@@ -2,15 +2,16 @@
 use Rattle.std.specs.Prelude.{◌≡◌, ℕ, Bool, List, ◌++◌, Ok, Err, Result, Some, None, Option}
 use Rattle.history.specs.declared.refusals.Refusal.{Refusal}
 use Rattle.history.specs.Board.{State, Answer, own_clock, marked}
-use Rattle.causality.specs.Boards.{Memory, Shows}
+use Rattle.causality.specs.Boards.{Memory, Shows, travelling}
 use Rattle.measures.specs.Measures.{Meaning}
+use Rattle.reports.specs.declared.commands.Command.TheVariants.{End}
 use Rattle.reports.specs.declared.faults.Reason.{Reason}
 use Rattle.reports.specs.declared.faults.Reason.TheVariants.{Refused}
 use Rattle.reports.specs.declared.faults.RecordingFault.{RecordingFault}
 use Rattle.reports.specs.declared.lines.MarkLine.{MarkLine}
 use Rattle.reports.specs.Faults.{fault_at}
 use Rattle.reports.specs.Lines.{mark_lines}
-use Rattle.reports.specs.Recordings.{Transcript, transcript_on}
+use Rattle.reports.specs.Recordings.{Transcript, end_after_calls, transcript_on}
 
 -- what was read or done, or why the recording breaks off at a byte of the input
 abbrev pub result_with_place : {T : Type 0} → Result T Reason → ℕ → Result T RecordingFault
@@ -39,3 +40,8 @@ abbrev pub WroteOn : {J : Type 0} → (J → Meaning ℕ) → (J → ℕ → Boo
 WroteOn meaning some all judge n k memory from bytes old new result =
     (s : State ℕ) → Shows (meaning judge).start n k memory s
     → Wrote old new (transcript_on (meaning judge) (some judge) (all judge) n k s from bytes) result
+
+-- Of each state that the memory of such a board shows, a recording ends so whose end stands at a byte of the input, with these bytes after it.
+abbrev pub EndedOn : {J : Type 0} → (J → Meaning ℕ) → J → ℕ → ℕ → Memory ℕ → ℕ → List ℕ → Result ℕ RecordingFault → Type 0
+EndedOn meaning judge n k memory place after result =
+    (s : State ℕ) → Shows (meaning judge).start n k memory s → result ≡ end_after_calls (travelling s.posts k) place (Ok (End, after))

@@ -32,7 +32,8 @@ impl Model for Page {
 
     ghost Value = { Written };
 
-    ghost view = { λ page. record { text = take page.len page.bytes.items; room = vec_capacity page.bytes } };
+    ghost view = { λ page.
+        record { text = take page.len page.bytes.items; room = vec_capacity page.bytes } };
 
     ghost invariant = { λ page. page.len ≤ length page.bytes.items };
 }

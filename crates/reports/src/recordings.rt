@@ -1,15 +1,13 @@
 // A recording, read command by command and handed to a board.
-ghost use Rattle.std.specs.Prelude.{◌≡◌, ℕ, ◌+◌, ◌*◌, ◌^◌, ◌<◌, ◌≤◌, true, length, Ok, Result};
+ghost use Rattle.std.specs.Prelude.{◌≡◌, ℕ, ◌+◌, ◌*◌, ◌^◌, ◌<◌, ◌≤◌, true, length, Result};
 ghost use Rattle.history.specs.declared.refusals.Refusal.{Refusal as ghost_refusal};
-ghost use Rattle.history.specs.Board.{State, Answer};
-ghost use Rattle.causality.specs.Boards.{Shows, travelling};
+ghost use Rattle.history.specs.Board.{Answer};
 ghost use Rattle.measures.specs.Worths.{load};
 ghost use Rattle.causality.specs.Calls.{Obeys, lent, has_room};
 ghost use Rattle.causality.specs.Handing.{handed};
-ghost use Rattle.reports.specs.Recordings.{end_after_calls, transcript};
-ghost use Rattle.reports.specs.Steps.{result_with_place, result_with_reason, answer_line, Wrote, WroteOn};
+ghost use Rattle.reports.specs.Recordings.{transcript};
+ghost use Rattle.reports.specs.Steps.{result_with_place, result_with_reason, answer_line, EndedOn, Wrote, WroteOn};
 ghost use Rattle.reports.specs.declared.lines.TheConstants.{TEXT_PER_BYTE};
-ghost use Rattle.reports.specs.declared.commands.Command.TheVariants.{End};
 
 use super::commands::{Command, MAKING_SIZE, first_command};
 use super::faults::{Reason, RecordingFault};
@@ -24,8 +22,8 @@ const MOST_CELLS: usize = (MAX_UNITS + MAX_MESSAGES) * MAX_UNITS;
 
 // The line of a mark of a unit.
 fn line_of_mark(unit: usize, judged: JudgedMark<u64>) -> MarkLine
-    ensures { result
-        ≡ record {
+    ensures { result ≡
+        record {
           unit = unit;
           clock = judged.mark.clock;
           predecessors = judged.mark.predecessors;
@@ -96,16 +94,10 @@ fn close<J: Judge<Value = u64>>(
     place: usize,
 ) -> Result<usize, RecordingFault>
     requires room { has_room board.now.units board.now.messages
-        (lent clocks.now flags.now values.now posts.now)
-        ≡ true }
+        (lent clocks.now flags.now values.now posts.now) ≡ true }
     requires place { place + 1 < 2 ^ 64 }
-    ensures { (s : State ℕ)
-        → Shows (J.Measure.meaning board.now.payload.measure).start
-        board.now.units board.now.messages
-        (lent clocks.now flags.now values.now posts.now) s
-        → result
-        ≡ end_after_calls (travelling s.posts board.now.messages) place
-        (Ok (End, after.now)) }
+    ensures { EndedOn J.Measure.meaning board.now.payload.measure board.now.units board.now.messages
+        (lent clocks.now flags.now values.now posts.now) place after.now result }
 {
     if !after.is_empty() {
         return Err(RecordingFault {
@@ -130,12 +122,11 @@ fn follow<J: Judge<Value = u64>>(
     from: usize,
 ) -> Result<usize, RecordingFault>
     requires room { has_room board.now.units board.now.messages
-        (lent clocks.old flags.old values.old posts.old)
-        ≡ true }
+        (lent clocks.old flags.old values.old posts.old) ≡ true }
     requires places { from + length bytes.now < 2 ^ 64 }
     requires space { length page.old.text + TEXT_PER_BYTE * length bytes.now ≤ page.old.room }
-    ensures tells { WroteOn J.Measure.meaning J.Judge.some_of J.Judge.all_of board.now.payload.measure
-        board.now.units board.now.messages
+    ensures tells { WroteOn J.Measure.meaning J.Judge.some_of J.Judge.all_of
+        board.now.payload.measure board.now.units board.now.messages
         (lent clocks.old flags.old values.old posts.old)
         from bytes.now page.old.text page.new.text result }
     ensures long { length page.new.text ≤ length page.old.text + TEXT_PER_BYTE * length bytes.now }
@@ -176,8 +167,7 @@ pub(crate) fn transcribe<J: Judge<Value = u64> + Drop>(
     requires space { length page.old.text + TEXT_PER_BYTE * length bytes.now ≤ page.old.room }
     ensures tells { Wrote page.old.text page.new.text
         (transcript (J.Measure.meaning judge) (J.Judge.some_of judge) (J.Judge.all_of judge)
-        place bytes.now)
-        result }
+        place bytes.now) result }
     ensures long { length page.new.text ≤ length page.old.text + TEXT_PER_BYTE * length bytes.now }
     ensures room { page.old.room ≤ page.new.room }
 {
