@@ -1,4 +1,5 @@
--- Two recordings with the same accepted calls unit by unit tell the same of each unit.
+-- Two recordings with the same accepted calls unit by unit have the same lines of each unit.
+-- A unit's lines are those of the answers to its calls, and the answers do not depend on the board's size or on the order among units (SizeFacts).
 use Rattle.std.proofs.Common.{◌≡◌, ℕ, ◌==◌, Bool, if◌then◌else◌, List, [], ◌∷◌, ◌++◌, drop, None, sym, refl, ap, ◌∙◌, subst, inl, inr}
 use Rattle.std.proofs.Math.Path.{fun_ext}
 use Rattle.std.proofs.lemmas.Bool.{cases_eq, eq-eqb, ne_eqb}
@@ -53,13 +54,13 @@ module _ (m : Meaning ℕ) (some all : ℕ → Bool) where
           (λ h c cs e ih. rw (e, e) (one_line c.unit (answer_to M z c.unit c.act (h.state.rows c.unit) ((acted M z h.state c.unit c.act).rows c.unit)) _ _ ih))
           (λ h c cs x e same. rw e refl)
 
-  -- The calls of a telling are all accepted by some board, and its lines are those of the answers to them.
+  -- The calls of a transcript are all accepted by some board, and its lines are those of the answers to them.
   abbrev OnBoard : Transcript → Type 0
   OnBoard t =
       (n k : ℕ) × (accepted (carrying m n) (sized m n k most_marks) t.calls ≡ t.calls)
       × ((u : ℕ) → lines_of u t.lines ≡ lines_by u (answers_of u t.calls (outcomes (carrying m n) (sized m n k most_marks) t.calls)))
 
-  -- So it is of each telling.
+  -- So it is of each transcript.
   on_board : (place : ℕ) (bytes : List ℕ) → OnBoard (transcript m some all place bytes)
   on_board = transcript_by_cases m some all OnBoard (λ reason place. (0, 0, refl, λ u. refl)) (λ n k place bytes. (
     n,
@@ -68,7 +69,7 @@ module _ (m : Meaning ℕ) (some all : ℕ → Bool) where
     λ u. lines_answered u (carrying m n) (sized m n k most_marks) (new_history (carrying m n)) (calls_in bytes),
   ))
 
-  -- Tellings of calls that are the same unit by unit have the same lines of each unit.
+  -- Transcripts of calls that are the same unit by unit have the same lines of each unit.
   same_lines : MarksValued m → (s t : Transcript) → OnBoard s → OnBoard t → SameByUnit s.calls t.calls → (u : ℕ) → lines_of u s.lines ≡ lines_of u t.lines
   same_lines valued s t (n, k, p, f) (n', k', q, g) same u =
       f u ∙ ap (lines_by u) (same_answers m valued most_marks n k n' k' s.calls t.calls p q same u) ∙ sym (g u)

@@ -1,4 +1,4 @@
--- What a board answers to a call, and the line that is told of it.
+-- What a board answers to a call, and the line of the answer.
 use Rattle.std.proofs.Common.{◌≡◌, ℕ, Bool, Some, None, Ok, Err, Option, Result, sym, refl, ap, ◌∙◌, subst}
 use Rattle.history.specs.declared.refusals.Refusal.{Refusal}
 use Rattle.history.specs.Board.{Answer}
@@ -43,7 +43,7 @@ module _ (some all : ℕ → Bool) (u : ℕ) where
       ∙ ap (λ (x : Bool). Ok (Some (record { unit = u; clock = r.mark.clock; predecessors = r.mark.predecessors; states = r.mark.value; some = some r.mark.value; all = x }))) a
   judged_line-is (Err e) s = refl
 
--- a call was answered by the rules, and told so
+-- a call was answered by the rules, and the result is the line of the answer
 abbrev pub AnswersCall : Meaning ℕ → ℕ → ℕ → (ℕ → Bool) → (ℕ → Bool) → Memory ℕ → Memory ℕ → calls.Call → Result (Option MarkLine) Reason → Type 0
 AnswersCall m n k some all old new c result = (x : Result (Answer ℕ) Refusal) × Obeys (load m) n k (handed c) old new x × (result ≡ answer_line some all c.unit x)
 

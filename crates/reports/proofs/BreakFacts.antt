@@ -1,4 +1,6 @@
 -- The size of the board that a recording makes, how far its calls are read, and what stands where it breaks off.
+-- By the first command: one that makes no board breaks off at once. On a board, either each call is read and the command after them breaks off, less
+-- than three bytes on; or the call after those read is refused. In both, three bytes for each call read stand before the break, and no more calls.
 use Rattle.std.proofs.Common.{◌≡◌, ℕ, ◌+◌, ◌*◌, ◌<◌, ◌⊎◌, true, List, [], ◌∷◌, ◌++◌, length, drop, take, Some, None, Ok, Err, Option, Result, refl, sym, ap, ◌∙◌, subst, inl, inr, arith, append-nil}
 use Rattle.std.proofs.lemmas.List.{drop-drop, drop-take}
 use Rattle.history.specs.declared.refusals.Refusal.{Refusal}

@@ -1,4 +1,6 @@
--- The calls at the front of some bytes, of three bytes each, and what a board tells of them, call by call.
+-- The calls that some bytes begin with, of three bytes each, and what they come to on a board, call by call.
+-- Where bytes begin with one call more, a transcript is that of the rest with the call and its line before it, or it ends with the call's refusal;
+-- where they begin with none, it is the end that the first command makes. All later proofs go by these three.
 use Rattle.std.proofs.Common.{◌≡◌, ℕ, zero, suc, ◌+◌, ◌*◌, ◌<◌, Bool, List, [], ◌∷◌, ◌++◌, length, drop, take, Some, None, Ok, Err, Option, Result, refl, ap, ◌∙◌, arith}
 use Rattle.history.specs.declared.refusals.Refusal.{Refusal}
 use Rattle.history.specs.Board.{State, Answer, next, outcome, outcomes_from, state_from}
@@ -59,11 +61,11 @@ calls_before i small (b ∷ (u ∷ (x ∷ rest))) (c ∷ before) after h =
     one None e ih = absurd (cc)
     one (Some x) e ih = cc
 
--- what tells of no call
+-- the transcript of a board that was handed no call
 abbrev pub end_transcript : ℕ → ℕ → Result ℕ RecordingFault → Transcript
 end_transcript n k end = record { units = n; messages = k; calls = []; lines = []; end = end }
 
--- some calls and lines before what is told
+-- a transcript with some calls and lines before it
 abbrev pub transcript_with : List Call → List MarkLine → Transcript → Transcript
 transcript_with cs ls t = record { units = t.units; messages = t.messages; calls = cs ++ t.calls; lines = ls ++ t.lines; end = t.end }
 
@@ -74,7 +76,7 @@ module _ (m : Meaning ℕ) (some all : ℕ → Bool) (n k : ℕ) (s : State ℕ)
   abbrev z : Size
   z = sized m n k most_marks
 
-  -- what is told of calls at the front of the bytes that are answered so, and lead to this state
+  -- the transcript if the bytes begin with these calls, which are answered so, and lead to this state
   abbrev transcript_by_answers : List Call → List (Result (Answer ℕ) Refusal) → State ℕ → Transcript
   transcript_by_answers cs xs t = record {
     units = n;
@@ -84,7 +86,7 @@ module _ (m : Meaning ℕ) (some all : ℕ → Bool) (n k : ℕ) (s : State ℕ)
     end = ending place xs (end_after_calls (travelling t.posts k) (place + 3 * length cs) (first_command (drop (3 * length cs) bytes)));
   }
 
-  -- what the board tells if these calls are at their front
+  -- the transcript if the bytes begin with these calls
   abbrev transcript_of_calls : List Call → Transcript
   transcript_of_calls cs = transcript_by_answers cs (outcomes_from M z s cs) (state_from M z s cs)
 
@@ -93,7 +95,7 @@ module _ (m : Meaning ℕ) (some all : ℕ → Bool) (n k : ℕ) (s : State ℕ)
   transcript_on-no_call none = ap transcript_of_calls none ∙ ap (λ (p : ℕ). end_transcript n k (end_after_calls (travelling s.posts k) p (first_command bytes))) (omega arith)
 
   module _ (c : Call) (rest : List ℕ) (first : calls_in bytes ≡ c ∷ calls_in rest) where
-    -- what it tells if the first call is answered so
+    -- the transcript if the first call is answered so
     abbrev transcript_by : Result (Answer ℕ) Refusal → Transcript
     transcript_by r = transcript_by_answers (c ∷ calls_in rest) (r ∷ outcomes_from M z (next M z s c) (calls_in rest)) (state_from M z (next M z s c) (calls_in rest))
 

@@ -1,4 +1,6 @@
 -- The first command of some bytes, and what it says of them.
+-- The bytes of a call are said twice, as a command (`first_command`) and as an event (`event_in`): for each first byte the two agree. Every other
+-- proof goes by `begins`, whichever the command is.
 use Rattle.std.proofs.Common.{◌≡◌, ℕ, List, [], ◌∷◌, Ok, Err, Result, sym, refl, subst, inl, inr}
 use Rattle.std.proofs.lemmas.Bool.{cases_eq, ne_eqb}
 use Rattle.history.specs.Runs as rules

@@ -11,7 +11,7 @@ use Rattle.text.specs.Inputs.{most_bytes}
 use Rattle.reports.specs.Reports.{relabelling_at, front_fault}
 use Rattle.reports.proofs.QuestionFacts.{ask_parts, or_parts, map_part}
 
--- Where no entry is told as too large, none was found.
+-- Where no entry is a fault, none was found too large.
 over_none : (from : ℕ) (o : Option ℕ) → over_fault from o ≡ None → o ≡ None
 over_none from None e = refl
 over_none from (Some i) e = absurd (cc)

@@ -1,4 +1,4 @@
--- What the mark at the end of a list of accepted calls was told, and its line.
+-- The mark at the end of a list of accepted calls: its event, and the answer to it.
 use Rattle.std.proofs.Common.{◌≡◌, ℕ, Bool, List, [], ◌∷◌, ◌++◌, length, Some, None, refl, sym, ap, ◌∙◌, if◌then◌else◌, ◌==◌, true, false}
 use Rattle.std.specs.List.{slice_get}
 use Rattle.std.proofs.Math.Path.{fun_ext}
@@ -51,7 +51,7 @@ module _ {V : Type 0} (M : Payload V) (z : Size) where
     pub mark_there : happened M z (with_mark before u l) u (length (by_unit before u)) ≡ Some (mark l)
     mark_there = ap (λ (ev : Events). ev u (length (by_unit before u))) events_are ∙ ap (λ (es : List Event). slice_get es (length (by_unit before u))) (by_unit_push before u (mark l)) ∙ seam (by_unit before u) (mark l) []
 
-    -- What the mark was told is the answer to it.
+    -- What the history says that the mark was told is the answer to it.
     pub answer_is : (r : Reply V) → at (run M z (with_mark before u l)).told u (length (by_unit before u)) ≡ Some r
         → r.answer ≡ answer_to M z u (mark l) ((run M z before).state.rows u) ((acted M z (run M z before).state u (mark l)).rows u)
     answer_is r e =

@@ -58,7 +58,7 @@ module _ (m : Meaning ℕ) (some all : ℕ → Bool) (place : ℕ) (bytes rest :
       let nothing = by_board (Some e) is in
       (sym (append-nil old) ∙ ap (λ (t : Transcript). old ++ mark_lines t.lines) (sym nothing), so ∙ ap (λ (t : Transcript). t.end) (sym nothing))
 
-  -- On one that is made the rest is told.
+  -- A board that is made is handed the rest.
   pub board_made : make_refusal n k true ≡ None → (old new : List ℕ) (result : Result ℕ RecordingFault) → Wrote old new (transcript_on m some all n k (new_state (carrying m n)) (place + 3) rest) result
       → Wrote old new (transcript m some all place bytes) result
   board_made is old new result tells = subst (λ (t : Transcript). Wrote old new t result) (sym (by_board None is)) tells

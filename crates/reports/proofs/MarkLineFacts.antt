@@ -1,4 +1,6 @@
--- What is told of the marks of a recording, of accepted fronts.
+-- The lines of the marks of a recording, where nothing is wrong with its front.
+-- The calls read are all accepted, so they are a run, and their lines are one for each mark. A list of calls is cut at a mark: the lines before it
+-- are as many as the marks before it, and what the mark's own line says is what the history was told of the mark that ends the first part.
 use Rattle.std.proofs.Common.{◌≡◌, ℕ, ◌+◌, Bool, List, [], ◌∷◌, ◌++◌, length, drop, Some, None, refl, sym, ap, ◌∙◌, subst, inl, inr}
 use Rattle.std.specs.List.{slice_get}
 use Rattle.history.specs.Events.{Events, mark}
@@ -20,7 +22,7 @@ use Rattle.reports.proofs.LastMarkFacts.{seam, with_mark, events_are, mark_there
 use Rattle.reports.proofs.TranscriptFacts.{reads, AllTaken, reads_taken, reads_ok, reads_lines, transcript_cases}
 use Rattle.reports.proofs.LineFacts.{taken_parts, line_at, lines_at, lines_more, lines_append, lines_count}
 
--- What is true of a telling of nothing, and of what each board tells, is true of what a recording comes to.
+-- What is true of a transcript of nothing, and of those on each new board, is true of every recording's.
 pub transcript_by_cases : (m : Meaning ℕ) (some all : ℕ → Bool) (P : Transcript → Type 0) → ((reason : Reason) (place : ℕ) → P (empty_transcript m some all reason place))
     → ((n k place : ℕ) (bytes : List ℕ) → P (transcript_on m some all n k (new_state (carrying m n)) place bytes)) → (place : ℕ) (bytes : List ℕ) → P (transcript m some all place bytes)
 transcript_by_cases m some all P none board place bytes = elim (transcript_cases m some all place bytes) [

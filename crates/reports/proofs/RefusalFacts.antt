@@ -1,4 +1,6 @@
 -- A call that a board refuses where a recording breaks off is none that could come next.
+-- Where answers break a recording off with a refusal, the call after those read was refused in the state that they lead to. The rules refuse only
+-- what could not come next. And that call is the one that stands in the bytes there, since each call before it took three.
 use Rattle.std.proofs.Common.{◌≡◌, ℕ, ◌+◌, ◌*◌, List, [], ◌∷◌, ◌++◌, length, drop, Some, None, Ok, Err, Result, refl, sym, ap, ◌∙◌, subst, inl, inr, arith}
 use Rattle.std.proofs.lemmas.List.{drop-drop}
 use Rattle.std.proofs.lemmas.Option.{none-some}
@@ -69,7 +71,7 @@ module _ (M : Payload ℕ) (z : Size) (bytes : List ℕ) where
       let ok = ((accepts_runs M z seen).next_call c.unit c.act).1 (subst (λ (logs : Logs). Possible z logs c.unit c.act) (sym (log_is M z seen (reads_taken M z (new_history M) (calls_in bytes)))) p) in
       none-some e (sym ok ∙ r)
 
-  -- So it is of the call at the place where the answers break a recording off.
+  -- So it is of the call that stands where the answers break a recording off.
   broken_impossible : (place : ℕ) (closing : Result ℕ RecordingFault) (e : Refusal) (at : ℕ) → (closing ≡ Err (fault_at (Refused e) at) → ⊥)
       → ending place (outcomes_from M z (new_state M) (calls_in bytes)) closing ≡ Err (fault_at (Refused e) at)
       → (c : Call) (cs : List Call) → ((i : ℕ) → at ≡ place + i → calls_in (drop i bytes) ≡ c ∷ cs) → Possible z (by_unit seen) c.unit c.act → ⊥
@@ -88,7 +90,7 @@ module _ (b : List ℕ) where
       (e : Refusal) (place : ℕ) → t.end ≡ Err (fault_at (Refused e) place) → (c : Call) (cs : List Call) → calls_in (drop place b) ≡ c ∷ cs
       → Possible (sized (judge_in b) t.units t.messages most_marks) (by_unit t.calls) c.unit c.act → ⊥
 
-  -- So it is where nothing is told, since no call comes first.
+  -- So it is of a recording that breaks off before any call, since no call comes first.
   on_nothing : (reason : Reason) → transcript_in b ≡ empty_transcript (judge_in b) (some_in b) (all_in b) reason (recording_at b) → RefusedIn (empty_transcript (judge_in b) (some_in b) (all_in b) reason (recording_at b))
   on_nothing reason t e place is c cs h p =
       let (r, at) = same_break reason (recording_at b) (fault_at (Refused e) place) is in

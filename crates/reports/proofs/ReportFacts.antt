@@ -8,7 +8,7 @@ use Rattle.reports.specs.Recordings.{Transcript, transcript}
 use Rattle.reports.specs.Steps.{Wrote}
 use Rattle.reports.specs.Reports.{recording_at, front_fault, judge_in, some_in, all_in, transcript_in, as_fault, end_by, text_by}
 
--- What is told under the judge in the input, from the byte where the recording begins, is what the input comes to.
+-- The transcript under the judge in the input, from the byte where the recording begins, is the input's.
 pub transcript_in-is : (b : List ℕ) (m : Meaning ℕ) (some all : ℕ → Bool) → m ≡ judge_in b → some ≡ some_in b → all ≡ all_in b → (from : ℕ) (bytes : List ℕ) → from ≡ recording_at b → bytes ≡ drop from b
     → transcript m some all from bytes ≡ transcript_in b
 transcript_in-is b m some all mm ss aa from bytes begins rest =
@@ -18,7 +18,7 @@ transcript_in-is b m some all mm ss aa from bytes begins rest =
     ∙ ap (transcript (judge_in b) (some_in b) (all_in b) from) rest
     ∙ ap (λ (p : ℕ). transcript (judge_in b) (some_in b) (all_in b) p (drop p b)) begins
 
--- Where nothing before the recording has a fault, the report is told once the header stands and the recording is told.
+-- Where nothing is wrong with the front, the report stands but for its last line once the header and the transcript are written.
 pub headed : (b : List ℕ) → front_fault b ≡ None → (old head new : List ℕ) → head ≡ old ++ header → (t : Transcript) → t ≡ transcript_in b → (result : Result ℕ RecordingFault) → Wrote head new t result
     → (new ≡ old ++ text_by b (front_fault b)) × (as_fault result ≡ end_by b (front_fault b))
 headed b sound old head new begun t same result (text, end) = (

@@ -16,7 +16,7 @@ module _ {T : Type 0} (place : ℕ) where
   result_with_place-ok (Ok y) e is = cc
   result_with_place-ok (Err q) e is = cc
 
-  -- what is not was not, for that reason and at that place
+  -- what is not was not, for that reason and there
   pub result_with_place-err : (r : Result T Reason) {f : RecordingFault} {t : Result T RecordingFault} → t ≡ result_with_place r place → t ≡ Err f → (r ≡ Err f.reason) × (f ≡ fault_at f.reason place)
   result_with_place-err (Ok y) e is = cc
   result_with_place-err (Err q) {f} e is = let same : fault_at q place ≡ f = cc in (cc, cc)

@@ -1,4 +1,6 @@
--- What units are told does not depend on the size of the board.
+-- What units are answered does not depend on the size of the board.
+-- Both boards log the same events. A send or a receipt is answered by the events alone, and so is each part of a mark's answer: its clock counts
+-- marks, its set has the immediate predecessors, and its value joins the longest flows, listed by either board.
 use Rattle.std.proofs.Common.{◌≡◌, ℕ, suc, ◌⊎◌, List, [], ◌∷◌, map, length, Some, refl, sym, ap, ap₂, ◌∙◌, subst, inl, inr}
 use Rattle.std.specs.List.{slice_get}
 use Rattle.std.specs.Option.{option_map}
@@ -23,7 +25,7 @@ use Rattle.measures.specs.Laws.{Valued, MarksValued, join_over}
 use Rattle.measures.specs.Measures.{Meaning}
 use Rattle.measures.specs.Worths.{carrying, sized}
 
--- Two lists are equal that are as long as a third and hold the same at each of its places.
+-- Two lists are equal that are as long as a third and hold the same at each of its indexes.
 by_places : {A B : Type 0} (es : List B) (xs ys : List A) → length xs ≡ length es → length ys ≡ length es
     → ((i : ℕ) (e : B) → slice_get es i ≡ Some e → slice_get xs i ≡ slice_get ys i) → xs ≡ ys
 by_places [] [] [] p q each = refl
@@ -33,7 +35,7 @@ by_places (e ∷ es) [] ys p q each = cc
 by_places (e ∷ es) (x ∷ xs) [] p q each = cc
 by_places (e ∷ es) (x ∷ xs) (y ∷ ys) p q each = ap₂ ◌∷◌ (same_Some _ _ (each 0 e refl)) (by_places es xs ys (cc) (cc) (λ i. each (suc i)))
 
--- Marks are answered the same that are told the same three things.
+-- Marks whose three parts are the same are answered the same.
 same_marked : {V : Type 0} (c d p q : ℕ) (x y : V) → c ≡ d → p ≡ q → x ≡ y → marked c p x ≡ marked d q y
 same_marked c d p q x y e f g = cc
 
@@ -66,7 +68,7 @@ module _ {V : Type 0} (m : Meaning V) (valued : MarksValued m) (limit n k n' k' 
   events : ev ≡ ev'
   events = ap at logs
 
-  -- the answers that were told to a unit
+  -- the answers to a unit
   abbrev answers : ℕ → List (Answer V)
   answers u = map (λ r. r.answer) ((run M z cs).told u)
 
@@ -79,7 +81,7 @@ module _ {V : Type 0} (m : Meaning V) (valued : MarksValued m) (limit n k n' k' 
         → slice_get (map (λ (r : Reply V). r.answer) replies) i ≡ Some a
     answer_there replies a stamp e = slice_get-map (λ (r : Reply V). r.answer) replies i ∙ ap (option_map (λ (r : Reply V). r.answer)) e
 
-    -- A mark is told the same on both boards.
+    -- A mark is answered the same on both boards.
     marks_same : (l : ℕ) → ev u i ≡ Some (mark l) → slice_get (answers u) i ≡ slice_get (answers' u) i
     marks_same l e =
         let v : Valued m n k limit cs u i = valued n k limit cs u i l e in
@@ -105,7 +107,7 @@ module _ {V : Type 0} (m : Meaning V) (valued : MarksValued m) (limit n k n' k' 
         ∙ ap (λ (x : Events). Some (message_told x u i)) events
         ∙ sym (answer_there ((run M' z' ds).told u) (message_told ev' u i) t g)
 
-    -- Each call is told the same on both boards.
+    -- Each call is answered the same on both boards.
     answer_same : (e : Event) → ev u i ≡ Some e → slice_get (answers u) i ≡ slice_get (answers' u) i
     answer_same (send p) e = moved_same p (inl e)
     answer_same (receive p) e = moved_same p (inr e)

@@ -1,4 +1,6 @@
 -- A recording that is read command by command: what is written so far, and what the rest comes to.
+-- The loop keeps `Reached`: text so far and lines of the rest are the lines of the whole, and the rest ends as the whole does. An accepted call moves
+-- one line from the rest to the text; every other command ends the rest with no lines, so the text is whole.
 use Rattle.std.proofs.Common.{◌≡◌, ℕ, ◌+◌, Bool, true, List, [], ◌∷◌, ◌++◌, Some, None, Ok, Err, Option, Result, sym, refl, ap, ◌∙◌, subst, append_assoc, append-nil}
 use Rattle.history.specs.declared.refusals.Refusal.{Refusal}
 use Rattle.history.specs.Board.{State, Answer, own_clock, marked, next}
@@ -34,7 +36,7 @@ option_lines None = []
 option_lines (Some l) = l ∷ []
 
 module _ (m : Meaning ℕ) (some all : ℕ → Bool) (u : ℕ) where
-  -- a call whose line is told was accepted with that line
+  -- a call whose line is answered was accepted with that line
   answer_line-ok : (x : Result (Answer ℕ) Refusal) (o : Option MarkLine) → Ok o ≡ answer_line some all u x → (a : Answer ℕ) × (x ≡ Ok a) × (line m some all u a ≡ option_lines o)
   answer_line-ok (Ok (own_clock clock)) None e = (own_clock clock, refl, refl)
   answer_line-ok (Ok (own_clock clock)) (Some l) e = absurd (cc)
@@ -51,7 +53,7 @@ module _ (m : Meaning ℕ) (some all : ℕ → Bool) (u : ℕ) where
   answer_line-err (Ok (marked clock predecessors v)) r e = absurd (cc)
   answer_line-err (Err f) r e = (f, refl, cc)
 
--- A board of n units and k messages that shows the state s tells of the bytes that begin at the byte `from`. What is written, and the lines that the
+-- A board of n units and k messages that shows the state s is handed the bytes that begin at the byte `from`. What is written, and the lines that the
 -- rest comes to, are the lines of the whole; and the rest ends as the whole does. The memory shows the state that the calls so far lead to.
 pub record Reached (m : Meaning ℕ) (some all : ℕ → Bool) (n k : ℕ) (s : State ℕ) (from : ℕ) (bytes old : List ℕ) (memory : Memory ℕ) (out : List ℕ) (place : ℕ) (rest : List ℕ) : Type 0 where
   pub state : State ℕ

@@ -1,4 +1,6 @@
--- Where a recording breaks off, its part before the break comes to the same calls and lines.
+-- Where a recording breaks off, it is cut there (`Cut`): what agrees with it up to the break comes to the same calls and lines first.
+-- By induction on three bytes at a time. Bytes that begin with no call, or with one that is refused, come to no call and no line, and break off at
+-- once, or one byte later after an end; a call that is accepted has its line before a recording in the next state, which breaks off later.
 use Rattle.std.proofs.Common.{◌≡◌, ℕ, ◌+◌, ◌≤◌, Bool, List, [], ◌∷◌, length, drop, Ok, Err, Result, Some, None, Option, refl, sym, ap, ◌∙◌, subst, inl, inr, arith}
 use Rattle.history.specs.declared.refusals.Refusal.{Refusal}
 use Rattle.history.specs.Board.{State, Answer, next, new_state, outcome}
@@ -62,7 +64,7 @@ module _ (m : Meaning ℕ) (some all : ℕ → Bool) where
     abbrev Breaking : List ℕ → RecordingFault → Type 0
     Breaking bytes f = (s : State ℕ) (place : ℕ) → (on s place bytes).end ≡ Err f → Cut (on s place) place bytes f
 
-    -- where what a board tells of some bytes breaks off, it tells the same calls and lines of the bytes before
+    -- where the transcript on a board breaks off, it is cut there
     transcript_on_cut : (s : State ℕ) (place : ℕ) (bytes : List ℕ) (f : RecordingFault) → (on s place bytes).end ≡ Err f → Cut (on s place) place bytes f
     transcript_on_cut s place [] f ends = bare s place f [] refl ends
     transcript_on_cut s place (b ∷ []) f ends = bare s place f (b ∷ []) refl ends
@@ -85,7 +87,7 @@ module _ (m : Meaning ℕ) (some all : ℕ → Bool) where
         by_event None is later = bare s place f (b ∷ u ∷ x ∷ rest) (ap (λ (o : Option Event). calls_with_first u o (calls_in rest)) is) ends
         by_event (Some e) is later = by_answer e is (outcome (carrying m n) (sized m n k most_marks) s (call u e)) refl later
 
-  -- where a recording breaks off, its part before the break comes to the same calls and lines
+  -- where a recording breaks off, it is cut there
   pub transcript_cut : (place : ℕ) (bytes : List ℕ) (f : RecordingFault) → (transcript m some all place bytes).end ≡ Err f → Cut (transcript m some all place) place bytes f
   transcript_cut place bytes f ends = elim (transcript_cases m some all place bytes) [
     | inl (reason, is) ↦

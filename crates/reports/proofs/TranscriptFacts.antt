@@ -58,7 +58,7 @@ module _ (m : Meaning ℕ) (some all : ℕ → Bool) where
       (λ h c cs e ih. rw (e, e) (ap (λ (l : List MarkLine). line m some all c.unit (answer_to M z c.unit c.act (h.state.rows c.unit) ((acted M z h.state c.unit c.act).rows c.unit)) ++ l) ih))
       (λ h c cs x e same. rw e refl)
 
-  -- a recording tells nothing; or its first command makes a board, on which the rest is told
+  -- a recording breaks off before any call; or its first command makes a board, and it comes to what the rest does on it
   abbrev pub TranscriptCases : ℕ → List ℕ → Type 0
   TranscriptCases place bytes =
       ((reason : Reason) × (transcript m some all place bytes ≡ empty_transcript m some all reason place))

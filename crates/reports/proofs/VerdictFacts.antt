@@ -1,4 +1,6 @@
--- What the value that a mark was told says of the longest flows, in the words of the pattern under the relabelling.
+-- What the value of a mark says of the longest flows that end there, in the words of the pattern under the relabelling.
+-- The law of judges (`measures`) gives this for any lawful measure and answers that go through its joins. The relabelled pattern is one, since an
+-- accepted front keeps its numbers within their bounds; and one state more or less is such an answer too, which gives the set exactly.
 use Rattle.std.proofs.Common.{◌≡◌, ℕ, ◌^◌, ◌<◌, Bool, ◌||◌, ◌↔◌, List, None, IsTrue, bit_or, refl, ap}
 use Rattle.std.proofs.lemmas.Bool.Decides.{Decides-at, Decides-eqb}
 use Rattle.bitset.specs.Sets.{bit, Member, has}
@@ -23,7 +25,7 @@ use Rattle.reports.specs.Laws.{in_pattern}
 use Rattle.reports.specs.Reports.{relabelling_at, front_fault, judge_in, some_in, all_in}
 use Rattle.reports.proofs.FrontFacts.{labels_counted, start_below, table_below, count_counted}
 
--- What a set says of the longest flows that end at place i of unit u: it holds exactly the states to which their words lead the pattern, once
+-- What a set says of the longest flows that end at event i of unit u: it holds exactly the states to which their words lead the pattern, once
 -- relabelled, and its two answers tell whether some, and whether each, of these words is accepted.
 abbrev pub SetTells : List ℕ → Events → ℕ → ℕ → ℕ → Type 0
 SetTells b ev u i set =
@@ -75,7 +77,7 @@ module _ (b : List ℕ) (sound : front_fault b ≡ None) where
   judges_state q =
       relabelled_judges (holds_judges b (states_in b) (labels_in b) (start_in b) (finals_in b) (padded 4096 (table_in b)) parts (labels_counted b sound) (start_below b sound) (table_below b sound) q)
 
-  -- The value told at each mark of every run says so of its longest flows.
+  -- The value of each mark of every run says so of its longest flows.
   pub sets_tell : AtMarks (judge_in b) (SetTells b)
   sets_tell n k limit cs u i l e =
       let m = judge_in b in

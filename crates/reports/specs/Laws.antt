@@ -42,7 +42,7 @@ abbrev pub marks_among : List Call → ℕ
 marks_among [] = 0
 marks_among (c ∷ cs) = tick (Some c.act) + marks_among cs
 
--- What a line tells of the mark at place i of unit u: its unit; its own number among its unit's marks, from 1; the units of its immediate
+-- What a line tells of the mark that is event i of unit u: its unit; its own number among its unit's marks, from 1; the units of its immediate
 -- predecessors; exactly the states to which the words of the longest flows that end there lead the pattern in the bytes b, once relabelled; and
 -- whether some, and whether each, of these words is accepted.
 pub record Tells (b : List ℕ) (ev : Events) (u i : ℕ) (line : MarkLine) : Type 0 where
@@ -65,12 +65,14 @@ lines_of u (l ∷ ls) = if u == l.unit then l ∷ lines_of u ls else lines_of u 
 -- a making that is refused for its size, where a recording begins
 abbrev pub RefusedMaking : List ℕ → ℕ → Refusal → Type 0
 RefusedMaking b place e =
-    (place ≡ recording_at b) × (n : ℕ) × (k : ℕ) × (rest : List ℕ) × (first_command (drop place b) ≡ Ok (commands.Make n k, rest)) × (make_refusal n k true ≡ Some e)
+    (place ≡ recording_at b) × (n : ℕ) × (k : ℕ) × (rest : List ℕ)
+    × (first_command (drop place b) ≡ Ok (commands.Make n k, rest)) × (make_refusal n k true ≡ Some e)
 
 -- the byte after the calls that were read, where a board was made
 abbrev pub AfterCalls : List ℕ → ℕ → Type 0
 AfterCalls b place =
-    (n : ℕ) × (k : ℕ) × (rest : List ℕ) × (first_command (drop (recording_at b) b) ≡ Ok (commands.Make n k, rest)) × (make_refusal n k true ≡ None)
+    (n : ℕ) × (k : ℕ) × (rest : List ℕ)
+    × (first_command (drop (recording_at b) b) ≡ Ok (commands.Make n k, rest)) × (make_refusal n k true ≡ None)
     × (place ≡ recording_at b + making_size + call_size * length (transcript_in b).calls)
 
 -- a call that the board refuses after the calls that were read
@@ -78,7 +80,8 @@ abbrev pub RefusedCall : List ℕ → Transcript → ℕ → Refusal → Type 0
 RefusedCall b t place e =
     let M = carrying (judge_in b) t.units in
     let z = sized (judge_in b) t.units t.messages most_marks in
-    (c : Call) × (cs : List Call) × (calls_in (drop place b) ≡ c ∷ cs) × (board.refusal M z (board.run M z t.calls).state c.unit c.act ≡ Some e)
+    (c : Call) × (cs : List Call) × (calls_in (drop place b) ≡ c ∷ cs)
+    × (board.refusal M z (board.run M z t.calls).state c.unit c.act ≡ Some e)
 
 -- bytes that are no whole command, where the recording begins or after its calls
 abbrev pub Malformed : List ℕ → ℕ → Reason → Type 0
@@ -91,38 +94,50 @@ Breaks b place NoByte = Malformed b place NoByte
 Breaks b place NoCommand = Malformed b place NoCommand
 Breaks b place NoOperands = Malformed b place NoOperands
 Breaks b place NoBoard =
-    (place ≡ recording_at b) × (c : Command) × (rest : List ℕ) × (first_command (drop place b) ≡ Ok (c, rest)) × ((n k : ℕ) → c ≡ commands.Make n k → ⊥)
-Breaks b place SecondBoard = AfterCalls b place × (n : ℕ) × (k : ℕ) × (rest : List ℕ) × (first_command (drop place b) ≡ Ok (commands.Make n k, rest))
-Breaks b place BytesAfterEnd = (p : ℕ) × (place ≡ suc p) × AfterCalls b p × (x : ℕ) × (rest : List ℕ) × (first_command (drop p b) ≡ Ok (commands.End, x ∷ rest))
+    (place ≡ recording_at b) × (c : Command) × (rest : List ℕ)
+    × (first_command (drop place b) ≡ Ok (c, rest)) × ((n k : ℕ) → c ≡ commands.Make n k → ⊥)
+Breaks b place SecondBoard =
+    AfterCalls b place × (n : ℕ) × (k : ℕ) × (rest : List ℕ) × (first_command (drop place b) ≡ Ok (commands.Make n k, rest))
+Breaks b place BytesAfterEnd =
+    (p : ℕ) × (place ≡ suc p) × AfterCalls b p × (x : ℕ) × (rest : List ℕ)
+    × (first_command (drop p b) ≡ Ok (commands.End, x ∷ rest))
 Breaks b place (Refused e) = RefusedMaking b place e ⊎ (AfterCalls b place × RefusedCall b (transcript_in b) place e)
 
 -- What is true of a report on an input whose pattern and relabelling are accepted.
 pub record ReportTrue (b : List ℕ) : Type 0 where
   -- the board has the size that the making asks for
-  pub sized : (n k : ℕ) (rest : List ℕ) → first_command (drop (recording_at b) b) ≡ Ok (commands.Make n k, rest) → make_refusal n k true ≡ None
+  pub sized : (n k : ℕ) (rest : List ℕ)
+      → first_command (drop (recording_at b) b) ≡ Ok (commands.Make n k, rest) → make_refusal n k true ≡ None
       → ((transcript_in b).units ≡ n) × ((transcript_in b).messages ≡ k)
   -- the calls read, up to the end or to where the recording breaks off, are what a real run could do
   pub run : Run (size_in b) (transcript_in b).calls
   -- and a call that the board refuses, there, is none that could come next
-  pub refused : (e : Refusal) (place : ℕ) → (transcript_in b).end ≡ Err (fault_at (Refused e) place) → (c : Call) (cs : List Call) → calls_in (drop place b) ≡ c ∷ cs
+  pub refused : (e : Refusal) (place : ℕ) → (transcript_in b).end ≡ Err (fault_at (Refused e) place)
+      → (c : Call) (cs : List Call) → calls_in (drop place b) ≡ c ∷ cs
       → Possible (size_in b) (by_unit (transcript_in b).calls) c.unit c.act → ⊥
   -- where it ends well, they are all calls after the command that makes the board
-  pub all_read : (left : ℕ) → (transcript_in b).end ≡ Ok left → (transcript_in b).calls ≡ calls_in (drop making_size (drop (recording_at b) b))
+  pub all_read : (left : ℕ) → (transcript_in b).end ≡ Ok left
+      → (transcript_in b).calls ≡ calls_in (drop making_size (drop (recording_at b) b))
   -- and after them stands an end, and nothing more
-  pub ended : (left : ℕ) → (transcript_in b).end ≡ Ok left → (p : ℕ) × AfterCalls b p × (first_command (drop p b) ≡ Ok (commands.End, []))
+  pub ended : (left : ℕ) → (transcript_in b).end ≡ Ok left
+      → (p : ℕ) × AfterCalls b p × (first_command (drop p b) ≡ Ok (commands.End, []))
   -- there is a line for each mark read, and no other, in the order of the recording
   pub lines_counted : length (transcript_in b).lines ≡ marks_among (transcript_in b).calls
   -- and it tells of the longest flows of the calls read up to that mark
   pub each_line : (before after : List Call) (u l : ℕ) → (transcript_in b).calls ≡ before ++ call u (mark l) ∷ after
-      → (line : MarkLine) × (slice_get (transcript_in b).lines (marks_among before) ≡ Some line) × Tells b (events_in (before ++ call u (mark l) ∷ [])) u (length (by_unit before u)) line
+      → (line : MarkLine) × (slice_get (transcript_in b).lines (marks_among before) ≡ Some line)
+      × Tells b (events_in (before ++ call u (mark l) ∷ [])) u (length (by_unit before u)) line
   -- at the end, the messages that were sent and not received are counted
   pub left_counted : (left : ℕ) → (transcript_in b).end ≡ Ok left
       → HowMany (λ p. Sent (events_in (transcript_in b).calls) p × (Received (events_in (transcript_in b).calls) p → ⊥)) left
   -- where the recording breaks off, its lines are exactly those of its part before the break
   pub part : (f : RecordingFault) → (transcript_in b).end ≡ Err f
-      → (front_fault (take f.place b) ≡ None) × SameFront b (take f.place b) × ((transcript_in (take f.place b)).calls ≡ (transcript_in b).calls) × ((transcript_in (take f.place b)).lines ≡ (transcript_in b).lines)
+      → (front_fault (take f.place b) ≡ None) × SameFront b (take f.place b)
+      × ((transcript_in (take f.place b)).calls ≡ (transcript_in b).calls)
+      × ((transcript_in (take f.place b)).lines ≡ (transcript_in b).lines)
   -- the calls read are all that stand before the break
-  pub read_to : (f : RecordingFault) → (transcript_in b).end ≡ Err f → (transcript_in b).calls ≡ calls_in (drop (recording_at b + making_size) (take f.place b))
+  pub read_to : (f : RecordingFault) → (transcript_in b).end ≡ Err f
+      → (transcript_in b).calls ≡ calls_in (drop (recording_at b + making_size) (take f.place b))
   -- and what stands there is a reason to break off
   pub broke : (f : RecordingFault) → (transcript_in b).end ≡ Err f → Breaks b f.place f.reason
 

@@ -63,7 +63,7 @@ module _ (m : Meaning ℕ) (some all : ℕ → Bool) where
   lines (c ∷ cs) (Ok a ∷ xs) = line c.unit a ++ lines cs xs
   lines (c ∷ cs) (Err e ∷ xs) = []
 
-  -- What a board of n units and k messages in a state tells of the calls at the front of some bytes, which begin at a byte of the input.
+  -- What the calls that some bytes begin with come to on a board of n units and k messages in a state; they stand at a byte of the input.
   abbrev pub transcript_on : ℕ → ℕ → State ℕ → ℕ → List ℕ → Transcript
   transcript_on n k s place bytes =
       let cs = calls_in bytes in
@@ -77,11 +77,11 @@ module _ (m : Meaning ℕ) (some all : ℕ → Bool) where
         end = ending place xs (end_after_calls left (place + call_size * length cs) (first_command (drop (call_size * length cs) bytes)));
       }
 
-  -- what breaks off before any call tells nothing
+  -- a recording that breaks off before any call
   abbrev pub empty_transcript : Reason → ℕ → Transcript
   empty_transcript reason place = record { units = 0; messages = 0; calls = []; lines = []; end = Err (fault_at reason place) }
 
-  -- a recording by its making, which is refused for its size, or makes the board on which the rest is told
+  -- a recording by its making, which is refused for its size, or makes the board to which the rest is handed
   abbrev pub transcript_of_board : ℕ → ℕ → ℕ → List ℕ → Option Refusal → Transcript
   transcript_of_board n k place bytes (Some e) = empty_transcript (Refused e) place
   transcript_of_board n k place bytes None = transcript_on n k (new_state (carrying m n)) (place + making_size) bytes

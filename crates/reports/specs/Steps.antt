@@ -36,7 +36,8 @@ Wrote old new t result = (new ≡ old ++ mark_lines t.lines) × (result ≡ t.en
 
 -- A board of n units and k messages, under a judge that is known by three functions, was handed the calls that the bytes begin with, which stand at
 -- a byte of the input: of each state that its memory showed, the transcript was written.
-abbrev pub WroteOn : {J : Type 0} → (J → Meaning ℕ) → (J → ℕ → Bool) → (J → ℕ → Bool) → J → ℕ → ℕ → Memory ℕ → ℕ → List ℕ → List ℕ → List ℕ → Result ℕ RecordingFault → Type 0
+abbrev pub WroteOn : {J : Type 0} → (J → Meaning ℕ) → (J → ℕ → Bool) → (J → ℕ → Bool) → J → ℕ → ℕ → Memory ℕ
+    → ℕ → List ℕ → List ℕ → List ℕ → Result ℕ RecordingFault → Type 0
 WroteOn meaning some all judge n k memory from bytes old new result =
     (s : State ℕ) → Shows (meaning judge).start n k memory s
     → Wrote old new (transcript_on (meaning judge) (some judge) (all judge) n k s from bytes) result

@@ -1,4 +1,4 @@
-// Pieces of text, put in place: each stands after the bytes before `at`, which stay as they are; those after it are free. A function that puts a
+// Pieces of text, put where they stand: each after the bytes before `at`, which stay as they are; those after it are free. A function that puts a
 // piece answers where it ends.
 ghost use Rattle.std.specs.Prelude.{◌≡◌, ◌+◌, ◌/◌, ◌%◌, ◌<◌, ◌≤◌, [], ◌∷◌, ◌++◌, length, take, drop, decimal};
 ghost use Rattle.text.specs.Hex.{digit_in_hex, hex_word};
