@@ -20,21 +20,22 @@ use Rattle.reports.specs.Commands.{first_command, calls_in}
 use Rattle.reports.specs.Laws.{AfterCalls, Breaks, RefusedCall}
 use Rattle.reports.specs.Recordings.{Transcript, end_after_calls, ending, transcript_from, empty_transcript, transcript_of_board, transcript_on}
 use Rattle.reports.specs.Reports.{judge_in, some_in, all_in, recording_at, transcript_in}
-use Rattle.reports.proofs.CallFacts.{calls_before, calls_after}
+use Rattle.reports.proofs.CallFacts.{after_making, calls_before, calls_after}
 use Rattle.reports.proofs.CutFacts.{same_break}
 use Rattle.reports.proofs.FirstCommandFacts.{OfForm, begins}
+use Rattle.reports.proofs.MakingFacts.{transcript-making}
 use Rattle.reports.proofs.TranscriptFacts.{reads}
 
 module _ (M : Payload ℕ) (z : Size) where
   -- Where answers break off, each call was read, and what closes them does so; or it is the call after those read that is refused.
-  abbrev BreakOff : History ℕ → List Call → Type 0
+  abbrev pub BreakOff : History ℕ → List Call → Type 0
   BreakOff h cs =
       (place : ℕ) (closing : Result ℕ RecordingFault) (f : RecordingFault) → ending place (outcomes_from M z h.state cs) closing ≡ Err f
       → ((closing ≡ Err f) × (reads M z h.state cs ≡ cs))
       ⊎ ((e : Refusal) × (c : Call) × (after : List Call) × (cs ≡ reads M z h.state cs ++ c ∷ after)
       × (refusal M z (run_from M z h (reads M z h.state cs)).state c.unit c.act ≡ Some e) × (Refused e ≡ f.reason) × (f.place ≡ place + 3 * length (reads M z h.state cs)))
 
-  break_off : (h : History ℕ) (cs : List Call) → BreakOff h cs
+  pub break_off : (h : History ℕ) (cs : List Call) → BreakOff h cs
   break_off = by_calls M z BreakOff (λ h place closing f is. inl (is, refl)) took turned
     where
       took : (h : History ℕ) (c : Call) (cs : List Call) → refusal M z h.state c.unit c.act ≡ None → BreakOff (taken M z h c) cs → BreakOff h (c ∷ cs)
@@ -55,8 +56,7 @@ module _ (b : List ℕ) where
   -- what a recording comes to whose first command makes such a board, refused so or made
   by_board : (n k : ℕ) (rest : List ℕ) → first_command bytes ≡ Ok (commands.Make n k, rest) → (o : Option Refusal) → make_refusal n k true ≡ o
       → transcript_in b ≡ transcript_of_board (judge_in b) (some_in b) (all_in b) n k (recording_at b) rest o
-  by_board n k rest first o is =
-      ap (transcript_from (judge_in b) (some_in b) (all_in b) (recording_at b)) first ∙ ap (transcript_of_board (judge_in b) (some_in b) (all_in b) n k (recording_at b) rest) is
+  by_board n k rest first o is = transcript-making (judge_in b) (some_in b) (all_in b) (recording_at b) bytes rest n k first o is
 
   -- The board has the size that the making asks for.
   pub sized_as_made : (n k : ℕ) (rest : List ℕ) → first_command bytes ≡ Ok (commands.Make n k, rest) → make_refusal n k true ≡ None
@@ -109,7 +109,7 @@ module _ (b : List ℕ) where
 
     -- the bytes after so many of the calls'
     there : (i place : ℕ) → place ≡ recording_at b + 3 + i → drop place b ≡ drop i rest
-    there i place at = sym (ap (drop i) three ∙ drop-drop i 3 bytes ∙ drop-drop (3 + i) (recording_at b) b ∙ ap (λ (j : ℕ). drop j b) (omega arith))
+    there i place at = after_making (recording_at b) b rest three i place at
 
     -- What closes the calls of a board breaks off as it says, less than three bytes after them.
     closes : AfterCalls b last → (left : ℕ) (r : Result (Command × List ℕ) Reason) → first_command tail ≡ r → end_after_calls left last r ≡ Err f → (i : ℕ) × (i < 3) × (f.place ≡ last + i) × Breaks b f.place f.reason

@@ -1,7 +1,8 @@
 -- The calls that some bytes begin with, of three bytes each, and what they come to on a board, call by call.
 -- Where bytes begin with one call more, a transcript is that of the rest with the call and its line before it, or it ends with the call's refusal;
 -- where they begin with none, it is the end that the first command makes. All later proofs go by these three.
-use Rattle.std.proofs.Common.{◌≡◌, ℕ, zero, suc, ◌+◌, ◌*◌, ◌<◌, Bool, List, [], ◌∷◌, ◌++◌, length, drop, take, Some, None, Ok, Err, Option, Result, refl, ap, ◌∙◌, arith}
+use Rattle.std.proofs.Common.{◌≡◌, ℕ, zero, suc, ◌+◌, ◌*◌, ◌<◌, Bool, List, [], ◌∷◌, ◌++◌, length, drop, take, Some, None, Ok, Err, Option, Result, refl, sym, ap, ◌∙◌, arith}
+use Rattle.std.proofs.lemmas.List.{drop-drop}
 use Rattle.history.specs.declared.refusals.Refusal.{Refusal}
 use Rattle.history.specs.Board.{State, Answer, next, outcome, outcomes_from, state_from}
 use Rattle.history.specs.Events.{Event}
@@ -14,7 +15,7 @@ use Rattle.measures.specs.Worths.{carrying, sized}
 use Rattle.reports.specs.declared.faults.Reason.TheVariants.{Refused}
 use Rattle.reports.specs.declared.faults.RecordingFault.{RecordingFault}
 use Rattle.reports.specs.declared.lines.MarkLine.{MarkLine}
-use Rattle.reports.specs.Commands.{first_command, event_in, calls_with_first, calls_in}
+use Rattle.reports.specs.Commands.{making_size, first_command, event_in, calls_with_first, calls_in}
 use Rattle.reports.specs.Faults.{fault_at}
 use Rattle.reports.specs.Recordings.{Transcript, end_after_calls, ending, before_refusal, line, lines, transcript_on}
 
@@ -35,6 +36,11 @@ calls_after (b ∷ []) (c ∷ before) after h = absurd (cc)
 calls_after (b ∷ (u ∷ [])) (c ∷ before) after h = absurd (cc)
 calls_after (b ∷ (u ∷ (x ∷ rest))) (c ∷ before) after h =
     ap calls_in (drop-call (length before) b u x rest) ∙ calls_after rest before after (first_call_rest u (event_in b x) (calls_in rest) c (before ++ after) h)
+
+-- So many bytes after a making stand so many bytes of the rest.
+pub after_making : (from : ℕ) (b rest : List ℕ) → rest ≡ drop making_size (drop from b) → (i place : ℕ) → place ≡ from + making_size + i → drop place b ≡ drop i rest
+after_making from b rest is i place at =
+    sym (ap (drop i) is ∙ drop-drop i making_size (drop from b) ∙ drop-drop (making_size + i) from b ∙ ap (λ (j : ℕ). drop j b) (omega arith))
 
 -- Fewer than three bytes have no call.
 few_bytes : (i : ℕ) → i < 3 → (bytes : List ℕ) → calls_in (take i bytes) ≡ []

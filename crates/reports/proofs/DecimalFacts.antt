@@ -1,30 +1,13 @@
 -- The decimal digits of numbers, two by two.
 use Rattle.std.proofs.Common.{◌≡◌, ℕ, zero, suc, ◌+◌, ◌*◌, ◌/◌, ◌%◌, ◌^◌, ◌<◌, ◌≤◌, Bool, true, ◌==◌, ◌&&◌, List, ◌++◌, length, take, drop, decimal, slice_index, refl, sym, ap, ◌∙◌, arith, inl, inr, eqb-true, append_assoc, length-append}
-use Rattle.std.proofs.lemmas.Bool.{and_parts, cases_lt}
 use Rattle.std.proofs.lemmas.Fmt.{decimal_digit, decimal_step}
 use Rattle.reports.specs.declared.buffers.TheConstants.{DECIMAL_PAIRS}
 use Rattle.reports.specs.Pages.{two}
-
--- whether the table has the decimal digits of each number below n
-abbrev same_below : ℕ → Bool
-same_below zero = true
-same_below (suc n) = slice_index DECIMAL_PAIRS (n * 2) == 48 + n / 10 && (slice_index DECIMAL_PAIRS (n * 2 + 1) == 48 + n % 10 && same_below n)
-
-same_at : (n b : ℕ) → same_below n ≡ true → b < n → (slice_index DECIMAL_PAIRS (b * 2) ≡ 48 + b / 10) × (slice_index DECIMAL_PAIRS (b * 2 + 1) ≡ 48 + b % 10)
-same_at zero b same h = absurd (omega arith)
-same_at (suc n) b same h =
-    let first = and_parts (slice_index DECIMAL_PAIRS (n * 2) == 48 + n / 10) (slice_index DECIMAL_PAIRS (n * 2 + 1) == 48 + n % 10 && same_below n) same in
-    let second = and_parts (slice_index DECIMAL_PAIRS (n * 2 + 1) == 48 + n % 10) (same_below n) first.1 in
-    elim (cases_lt b n) [
-      | inl below ↦ same_at n b second.1 below
-      | inr top ↦
-          let e : b ≡ n = omega arith in
-          rw e (eqb-true _ _ first.0, eqb-true _ _ second.0)
-    ]
+use Rattle.reports.proofs.PairFacts.{pair_at}
 
 -- The table has the two digits of each number below 100.
 pub DECIMAL_PAIRS_at : (b : ℕ) → b < 100 → (slice_index DECIMAL_PAIRS (b * 2) ≡ 48 + b / 10) × (slice_index DECIMAL_PAIRS (b * 2 + 1) ≡ 48 + b % 10)
-DECIMAL_PAIRS_at b h = same_at 100 b refl h
+DECIMAL_PAIRS_at b small = pair_at DECIMAL_PAIRS (λ n. 48 + n / 10) (λ n. 48 + n % 10) 100 b refl small
 
 -- A number from 10 to 99 has two digits.
 pub decimal_two : (n : ℕ) → 10 ≤ n → n < 100 → decimal n ≡ two n

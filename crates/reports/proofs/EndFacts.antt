@@ -3,7 +3,6 @@
 -- calls; it counts the messages whose state is on the way, which in a run are those sent and not received.
 use Rattle.std.proofs.Common.{◌≡◌, ◌↔◌, ℕ, zero, suc, ◌+◌, ◌*◌, ◌<◌, Bool, true, false, if◌then◌else◌, ◌==◌, List, [], ◌∷◌, length, drop, Some, Ok, Err, Result, sym, refl, ap, ◌∙◌, subst, inl, inr, ⊎_elim, arith}
 use Rattle.std.specs.List.{slice_get}
-use Rattle.std.proofs.lemmas.List.{drop-drop}
 use Rattle.std.proofs.Math.Path.{fun_ext}
 use Rattle.history.specs.declared.messages.Post.{Post}
 use Rattle.history.specs.declared.refusals.Refusal.{Refusal}
@@ -28,6 +27,7 @@ use Rattle.reports.specs.Commands.{first_command, calls_in}
 use Rattle.reports.specs.Recordings.{Transcript, end_after_calls, ending, before_refusal, transcript_on, transcript}
 use Rattle.reports.specs.Reports.{recording_at, judge_in, some_in, all_in, transcript_in}
 use Rattle.reports.specs.Laws.{AfterCalls}
+use Rattle.reports.proofs.CallFacts.{after_making}
 use Rattle.reports.proofs.FirstCommandFacts.{begins}
 use Rattle.reports.proofs.TranscriptFacts.{reads, reads_ok, last_run, transcript_cases}
 
@@ -100,21 +100,14 @@ module _ {V : Type 0} (M : Payload V) (z : Size) where
       one (Ok a) xs ih e = let (p, q) = ih e in (p, ap (λ (l : List Call). c ∷ l) q)
       one (Err x) xs ih e = cc
 
--- What closes a recording well leaves what is left.
-end_after_calls-ok : (left place : ℕ) (r : Result (Command × List ℕ) Reason) (x : ℕ) → end_after_calls left place r ≡ Ok x → left ≡ x
+-- What ends a recording well is an end with nothing after it, and leaves what is left.
+end_after_calls-ok : (left place : ℕ) (r : Result (Command × List ℕ) Reason) (x : ℕ) → end_after_calls left place r ≡ Ok x
+    → (r ≡ Ok (commands.End, [])) × (left ≡ x)
 end_after_calls-ok left place (Err reason) x e = cc
-end_after_calls-ok left place (Ok (commands.End, [])) x e = cc
+end_after_calls-ok left place (Ok (commands.End, [])) x e = (refl, cc)
 end_after_calls-ok left place (Ok (commands.End, y ∷ rest)) x e = cc
 end_after_calls-ok left place (Ok (commands.Make n k, rest)) x e = cc
 end_after_calls-ok left place (Ok (commands.Call c, rest)) x e = cc
-
--- And it is an end, with nothing after it.
-end_after_calls-end : (left place : ℕ) (r : Result (Command × List ℕ) Reason) (x : ℕ) → end_after_calls left place r ≡ Ok x → r ≡ Ok (commands.End, [])
-end_after_calls-end left place (Err reason) x e = cc
-end_after_calls-end left place (Ok (commands.End, [])) x e = refl
-end_after_calls-end left place (Ok (commands.End, y ∷ rest)) x e = cc
-end_after_calls-end left place (Ok (commands.Make n k, rest)) x e = cc
-end_after_calls-end left place (Ok (commands.Call c, rest)) x e = cc
 
 module _ (m : Meaning ℕ) (some all : ℕ → Bool) where
   -- Where a recording on a board ends well, it leaves the messages on their way after the calls read.
@@ -126,7 +119,7 @@ module _ (m : Meaning ℕ) (some all : ℕ → Bool) where
       let cs = calls_in bytes in
       let after = first_command (drop (3 * length cs) bytes) in
       let (p, q) = ending_ok M z cs (new_state M) place x (end_after_calls (travelling (state_from M z (new_state M) cs).posts k) (place + 3 * length cs) after) e in
-      sym (end_after_calls-ok _ _ _ x p)
+      sym (end_after_calls-ok _ _ _ x p).1
       ∙ ap (λ (s : State ℕ). travelling s.posts k) (last_run M z cs)
       ∙ ap (λ (l : List Call). travelling (run M z l).state.posts k) (sym q)
 
@@ -171,11 +164,9 @@ ended b left ends = elim (transcript_cases (judge_in b) (some_in b) (all_in b) (
       let (none, x, same, whatever) = begins (drop (recording_at b) b) _ first in
       let cs = calls_in rest in
       let (p, q) = ending_ok (carrying (judge_in b) n) (sized (judge_in b) n k most_marks) cs (new_state (carrying (judge_in b) n)) (recording_at b + 3) left _ (sym (ap (λ (t : Transcript). t.end) t) ∙ ends) in
-      let there : drop (recording_at b + 3 + 3 * length cs) b ≡ drop (3 * length cs) rest =
-      sym (ap (drop (3 * length cs)) (sym (ap (drop 3) same)) ∙ drop-drop (3 * length cs) 3 (drop (recording_at b) b) ∙ drop-drop (3 + 3 * length cs) (recording_at b) b
-      ∙ ap (λ (j : ℕ). drop j b) (omega arith)) in (
+      let there = after_making (recording_at b) b rest (sym (ap (drop 3) same)) (3 * length cs) (recording_at b + 3 + 3 * length cs) refl in (
         recording_at b + 3 + 3 * length cs,
         (n, k, rest, first, made, ap (λ (l : List Call). recording_at b + 3 + 3 * length l) (sym (ap (λ (t : Transcript). t.calls) t ∙ q))),
-        ap first_command there ∙ end_after_calls-end _ _ _ left p,
+        ap first_command there ∙ (end_after_calls-ok _ _ _ left p).0,
       )
 ]

@@ -1,7 +1,7 @@
 -- The first command of some bytes, and what it says of them.
 -- The bytes of a call are said twice, as a command (`first_command`) and as an event (`event_in`): for each first byte the two agree. Every other
 -- proof goes by `begins`, whichever the command is.
-use Rattle.std.proofs.Common.{◌≡◌, ℕ, List, [], ◌∷◌, Ok, Err, Result, sym, refl, subst, inl, inr}
+use Rattle.std.proofs.Common.{◌≡◌, ℕ, List, [], ◌∷◌, Ok, Err, Result, ◌+◌, length, sym, refl, ap, ◌∙◌, subst, inl, inr, arith}
 use Rattle.std.proofs.lemmas.Bool.{cases_eq, ne_eqb}
 use Rattle.history.specs.Runs as rules
 use Rattle.causality.specs.declared.calls.Call as handing
@@ -10,7 +10,7 @@ use Rattle.reports.specs.declared.commands.Command.{Command}
 use Rattle.reports.specs.declared.commands.Command.TheVariants.{Make, Call, End}
 use Rattle.reports.specs.declared.faults.Reason.{Reason}
 use Rattle.reports.specs.declared.faults.Reason.TheVariants.{NoByte, NoCommand, NoOperands}
-use Rattle.reports.specs.Commands.{make_byte, send_byte, receive_byte, mark_byte, end_byte, first_command, calls_in}
+use Rattle.reports.specs.Commands.{make_byte, send_byte, receive_byte, mark_byte, end_byte, call_size, making_size, first_command, calls_in}
 
 -- whether bytes can be no whole command for this reason
 abbrev pub OfForm : Reason → Type 0
@@ -90,6 +90,13 @@ begins bytes r is = subst (Begins bytes) is (all bytes)
     all : (bytes : List ℕ) → FirstBegins bytes
     all [] = (refl, tt)
     all (b ∷ rest) = by_byte b rest
+
+-- A call takes three bytes, and a making too.
+pub length-call : (bytes : List ℕ) (c : handing.Call) (rest : List ℕ) → first_command bytes ≡ Ok (Call c, rest) → length bytes ≡ length rest + call_size
+length-call bytes c rest first = let (b, x, is, calls) = begins bytes _ first in ap length is ∙ (omega arith)
+
+pub length-making : (bytes : List ℕ) (n k : ℕ) (rest : List ℕ) → first_command bytes ≡ Ok (Make n k, rest) → length bytes ≡ length rest + making_size
+length-making bytes n k rest first = let (none, b, is, made) = begins bytes _ first in ap length is ∙ (omega arith)
 
 -- Where some bytes begin with a call, their first command is one.
 pub begins_call : (bytes : List ℕ) (c : rules.Call) (cs : List rules.Call) → calls_in bytes ≡ c ∷ cs → (r : handing.Call) × (rest : List ℕ) × (first_command bytes ≡ Ok (Call r, rest))

@@ -12,6 +12,7 @@ mod LastMarkFacts
 mod LineFacts
 mod MakingFacts
 mod MarkLineFacts
+mod PairFacts
 mod PartFacts
 mod PrefixFacts
 mod QuestionFacts

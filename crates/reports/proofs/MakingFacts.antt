@@ -48,20 +48,21 @@ module _ (n k : ℕ) (few_messages : k ≤ most_messages) where
       go false e = rw (e, and_false (leb 1 n)) refl
 
 module _ (m : Meaning ℕ) (some all : ℕ → Bool) (place : ℕ) (bytes rest : List ℕ) (n k : ℕ) (first : first_command bytes ≡ Ok (commands.Make n k, rest)) where
-  by_board : (o : Option Refusal) → make_refusal n k true ≡ o → transcript m some all place bytes ≡ transcript_of_board m some all n k place rest o
-  by_board o is = ap (transcript_from m some all place) first ∙ ap (transcript_of_board m some all n k place rest) is
+  -- Its transcript is by the making.
+  pub transcript-making : (o : Option Refusal) → make_refusal n k true ≡ o → transcript m some all place bytes ≡ transcript_of_board m some all n k place rest o
+  transcript-making o is = ap (transcript_from m some all place) first ∙ ap (transcript_of_board m some all n k place rest) is
 
   -- A board that is not made breaks the recording off.
   pub board_refused : (e : Refusal) → make_refusal n k true ≡ Some e → (old : List ℕ) (result : Result ℕ RecordingFault) → result ≡ Err (fault_at (Refused e) place)
       → Wrote old old (transcript m some all place bytes) result
   board_refused e is old result so =
-      let nothing = by_board (Some e) is in
+      let nothing = transcript-making (Some e) is in
       (sym (append-nil old) ∙ ap (λ (t : Transcript). old ++ mark_lines t.lines) (sym nothing), so ∙ ap (λ (t : Transcript). t.end) (sym nothing))
 
   -- A board that is made is handed the rest.
   pub board_made : make_refusal n k true ≡ None → (old new : List ℕ) (result : Result ℕ RecordingFault) → Wrote old new (transcript_on m some all n k (new_state (carrying m n)) (place + 3) rest) result
       → Wrote old new (transcript m some all place bytes) result
-  board_made is old new result tells = subst (λ (t : Transcript). Wrote old new t result) (sym (by_board None is)) tells
+  board_made is old new result tells = subst (λ (t : Transcript). Wrote old new t result) (sym (transcript-making None is)) tells
 
 -- What was written on a board is written by the judge, and of the size, that it was made with.
 pub made_with : {J : Type 0} (meaning : J → Meaning ℕ) (some all : J → ℕ → Bool) (judge measure : J) → measure ≡ judge → (n units : ℕ) → units ≡ n → (k messages : ℕ) → messages ≡ k

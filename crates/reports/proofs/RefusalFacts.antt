@@ -2,7 +2,6 @@
 -- Where answers break a recording off with a refusal, the call after those read was refused in the state that they lead to. The rules refuse only
 -- what could not come next. And that call is the one that stands in the bytes there, since each call before it took three.
 use Rattle.std.proofs.Common.{◌≡◌, ℕ, ◌+◌, ◌*◌, List, [], ◌∷◌, ◌++◌, length, drop, Some, None, Ok, Err, Result, refl, sym, ap, ◌∙◌, subst, inl, inr, arith}
-use Rattle.std.proofs.lemmas.List.{drop-drop}
 use Rattle.std.proofs.lemmas.Option.{none-some}
 use Rattle.history.specs.declared.refusals.Refusal.{Refusal}
 use Rattle.history.specs.Events.{Logs}
@@ -10,7 +9,6 @@ use Rattle.history.specs.Rows.{Payload}
 use Rattle.history.specs.Runs.{Size, Call, Possible, by_unit}
 use Rattle.history.specs.Board.{History, new_history, new_state, outcomes_from, refusal, run_from, run, state_from}
 use Rattle.history.proofs.Accepting.{accepts_runs}
-use Rattle.history.proofs.Runs.{by_calls, taken}
 use Rattle.history.specs.Limits.{most_marks}
 use Rattle.causality.specs.Boards.{travelling}
 use Rattle.measures.specs.Worths.{carrying, sized}
@@ -23,7 +21,8 @@ use Rattle.reports.specs.Commands.{first_command, calls_in}
 use Rattle.reports.specs.Faults.{fault_at}
 use Rattle.reports.specs.Recordings.{Transcript, end_after_calls, ending, transcript_from, empty_transcript, transcript_on}
 use Rattle.reports.specs.Reports.{judge_in, some_in, all_in, recording_at, transcript_in}
-use Rattle.reports.proofs.CallFacts.{calls_after}
+use Rattle.reports.proofs.BreakFacts.{break_off}
+use Rattle.reports.proofs.CallFacts.{after_making, calls_after}
 use Rattle.reports.proofs.CutFacts.{same_break}
 use Rattle.reports.proofs.FirstCommandFacts.{begins, begins_call}
 use Rattle.reports.proofs.LastMarkFacts.{log_is}
@@ -36,29 +35,6 @@ end_after_calls-refuses_nothing left place (Ok (commands.End, [])) e p none h = 
 end_after_calls-refuses_nothing left place (Ok (commands.End, x ∷ rest)) e p none h = let s = (same_break BytesAfterEnd (place + 1) (fault_at (Refused e) p) h).0 in cc
 end_after_calls-refuses_nothing left place (Ok (commands.Make n k, rest)) e p none h = let s = (same_break SecondBoard place (fault_at (Refused e) p) h).0 in cc
 end_after_calls-refuses_nothing left place (Ok (commands.Call c, rest)) e p none h = let s = (same_break SecondBoard place (fault_at (Refused e) p) h).0 in cc
-
-module _ (M : Payload ℕ) (z : Size) where
-  -- where the answers break a recording off with a refusal, the call there, next after those before it, is refused so
-  abbrev RefusedAt : History ℕ → List Call → Type 0
-  RefusedAt h cs =
-      (pl : ℕ) (closing : Result ℕ RecordingFault) (e : Refusal) (place : ℕ) → (closing ≡ Err (fault_at (Refused e) place) → ⊥)
-      → ending pl (outcomes_from M z h.state cs) closing ≡ Err (fault_at (Refused e) place)
-      → (c : Call) × (after : List Call) × (cs ≡ reads M z h.state cs ++ c ∷ after) × (place ≡ pl + 3 * length (reads M z h.state cs))
-      × (refusal M z (run_from M z h (reads M z h.state cs)).state c.unit c.act ≡ Some e)
-
-  -- Where answers break a recording off, they do so.
-  refused_at : (h : History ℕ) (cs : List Call) → RefusedAt h cs
-  refused_at = by_calls M z RefusedAt (λ h pl closing e place no is. absurd (no is)) took turned
-    where
-      took : (h : History ℕ) (c : Call) (cs : List Call) → refusal M z h.state c.unit c.act ≡ None → RefusedAt (taken M z h c) cs → RefusedAt h (c ∷ cs)
-      took h c cs e ih = rw (e, e) (λ pl closing x place no is.
-          let (d, after, p, q, r) = ih (pl + 3) closing x place no is in
-          (d, after, ap (λ (l : List Call). c ∷ l) p, omega arith, r))
-
-      turned : (h : History ℕ) (c : Call) (cs : List Call) (x : Refusal) → refusal M z h.state c.unit c.act ≡ Some x → RefusedAt h cs → RefusedAt h (c ∷ cs)
-      turned h c cs x e same = rw e (λ pl closing y place no is.
-          let (p, q) = same_break (Refused x) pl (fault_at (Refused y) place) is in
-          (c, cs, refl, omega arith, e ∙ (cc)))
 
 module _ (M : Payload ℕ) (z : Size) (bytes : List ℕ) where
   -- the calls that were read
@@ -75,10 +51,13 @@ module _ (M : Payload ℕ) (z : Size) (bytes : List ℕ) where
   broken_impossible : (place : ℕ) (closing : Result ℕ RecordingFault) (e : Refusal) (at : ℕ) → (closing ≡ Err (fault_at (Refused e) at) → ⊥)
       → ending place (outcomes_from M z (new_state M) (calls_in bytes)) closing ≡ Err (fault_at (Refused e) at)
       → (c : Call) (cs : List Call) → ((i : ℕ) → at ≡ place + i → calls_in (drop i bytes) ≡ c ∷ cs) → Possible z (by_unit seen) c.unit c.act → ⊥
-  broken_impossible place closing e at other is c cs h p =
-      let (d, after, q, there, r) = refused_at M z (new_history M) (calls_in bytes) place closing e at other is in
-      let same : d ≡ c = let x = calls_after bytes seen (d ∷ after) q in let y = h (3 * length seen) there in cc in
-      refused_impossible c e (subst (λ (a : Call). refusal M z (run M z seen).state a.unit a.act ≡ Some e) same r) p
+  broken_impossible place closing e at other is c cs here could =
+      elim (break_off M z (new_history M) (calls_in bytes) place closing (fault_at (Refused e) at) is) [
+        | inl (closes, all_read) ↦ absurd (other closes)
+        | inr (x, d, after, split, refused_so, reason, there) ↦
+            let same : d ≡ c = let stands = calls_after bytes seen (d ∷ after) split in let stands_too = here (3 * length seen) there in cc in
+            refused_impossible c x (subst (λ (a : Call). refusal M z (run M z seen).state a.unit a.act ≡ Some x) same refused_so) could
+      ]
 
 module _ (b : List ℕ) where
   abbrev bytes : List ℕ
@@ -109,10 +88,7 @@ module _ (b : List ℕ) where
       let left = travelling (state_from M z (new_state M) all).posts k in
       let end = recording_at b + 3 + 3 * length all in
       broken_impossible M z rest (recording_at b + 3) (end_after_calls left end (first_command tail)) e place (end_after_calls-refuses_nothing left end (first_command tail) e place (λ h. (begins tail (Err (Refused e)) h).1)) is c cs
-      (λ i at. ap calls_in (there i at) ∙ h) p
-    where
-      there : (i : ℕ) → place ≡ recording_at b + 3 + i → drop i rest ≡ drop place b
-      there i at = ap (drop i) three ∙ drop-drop i 3 bytes ∙ drop-drop (3 + i) (recording_at b) b ∙ ap (λ (j : ℕ). drop j b) (omega arith)
+      (λ i at. ap calls_in (sym (after_making (recording_at b) b rest three i place at)) ∙ h) p
 
   -- A call that is refused, where a recording breaks off, is none that could come next.
   pub refused : RefusedIn (transcript_in b)

@@ -5,7 +5,7 @@ use Rattle.reports.specs.declared.faults.RecordingFault.{RecordingFault}
 use Rattle.reports.specs.declared.lines.MarkLine.{MarkLine}
 use Rattle.reports.specs.Lines.{mark_text}
 use Rattle.text.specs.Lines.{line_of}
-use Rattle.reports.proofs.FirstCommandFacts.{begins}
+use Rattle.reports.proofs.FirstCommandFacts.{length-call}
 use Rattle.reports.proofs.ResultFacts.{result_with_place-ok, result_with_place-err, first_command-ok, first_command-err}
 use Rattle.reports.proofs.StepFacts.{closes, missing, second, refuses, accepts}
 use Rattle.reports.proofs.recordings.follow.Goals as goal
@@ -54,8 +54,7 @@ loop-command-preserved-in-Some g c =
     let new = lent h.new.clocks h.new.flags h.new.values h.new.posts in
     let (x, obeys, said) = h.ensures in
     let told = result_with_place-ok place h.result c.with_place-in-Call.ensures c.in_ok-line-in-Call.was in
-    let (b, u, is, calls) = begins l.rest.now _ first in
-    let size : length l.rest.now ≡ suc (suc (suc (length c.in_ok-command.after.now))) = ap (λ (ys : List ℕ). length ys) is in
+    let size = length-call l.rest.now _ _ first in
     let i = l.invariant in
     let next : a.from + (length a.bytes.now - length c.in_ok-command.after.now) ≡ place + 3 = omega (arith, size, i.places) in
     let w = c.push_mark.ensures in
@@ -80,8 +79,7 @@ loop-command-preserved g c =
     let new = lent h.new.clocks h.new.flags h.new.values h.new.posts in
     let (x, obeys, said) = h.ensures in
     let told = result_with_place-ok place h.result c.with_place-in-Call.ensures c.in_ok-line-in-Call.was in
-    let (b, u, is, calls) = begins l.rest.now _ first in
-    let size : length l.rest.now ≡ suc (suc (suc (length c.in_ok-command.after.now))) = ap (λ (ys : List ℕ). length ys) is in
+    let size = length-call l.rest.now _ _ first in
     let i = l.invariant in
     let next : a.from + (length a.bytes.now - length c.in_ok-command.after.now) ≡ place + 3 = omega (arith, size, i.places) in
     record {

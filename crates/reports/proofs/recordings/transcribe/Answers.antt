@@ -10,7 +10,7 @@ use Rattle.measures.specs.Worths.{carrying}
 use Rattle.reports.specs.declared.commands.Command.TheVariants.{Make}
 use Rattle.reports.specs.declared.faults.RecordingFault.{RecordingFault}
 use Rattle.reports.specs.Faults.{fault_at}
-use Rattle.reports.proofs.FirstCommandFacts.{begins}
+use Rattle.reports.proofs.FirstCommandFacts.{length-making}
 use Rattle.reports.proofs.MakingFacts.{made_by_size, board_refused, board_made, made_with}
 use Rattle.reports.proofs.ResultFacts.{result_with_place-ok, result_with_place-err, match_result-ok, match_result-err, result_with_reason-ok, result_with_reason-err, first_command-ok}
 use Rattle.reports.proofs.recordings.transcribe.Goals as goal
@@ -56,8 +56,7 @@ pub returns-clause-long : goal.returns-clause-long
 returns-clause-long g c =
     let a = c.args in
     let first = first_command-ok a.bytes.now a.place c.first_command.result c.first_command.ensures c.with_place.ensures c.in_ok-command.was c.in-Make.is in
-    let (calls, b, is, made) = begins a.bytes.now _ first in
-    let size : length a.bytes.now ≡ suc (suc (suc (length c.in_ok-command.rest.now))) = ap (λ (ys : List ℕ). length ys) is in
+    let size = length-making a.bytes.now _ _ _ first in
     let long = c.follow.ensures.long in
     omega arith
 
@@ -65,8 +64,7 @@ pub overflow_add-place : goal.overflow_add-place
 overflow_add-place g c =
     let a = c.args in
     let first = first_command-ok a.bytes.now a.place c.first_command.result c.first_command.ensures c.with_place.ensures c.in_ok-command.was c.in-Make.is in
-    let (calls, b, is, made) = begins a.bytes.now _ first in
-    let size : length a.bytes.now ≡ suc (suc (suc (length c.in_ok-command.rest.now))) = ap (λ (ys : List ℕ). length ys) is in
+    let size = length-making a.bytes.now _ _ _ first in
     let room = c.requires.places in
     omega arith
 
@@ -74,8 +72,7 @@ pub follow-requires-clause-places : goal.follow-requires-clause-places
 follow-requires-clause-places g c =
     let a = c.args in
     let first = first_command-ok a.bytes.now a.place c.first_command.result c.first_command.ensures c.with_place.ensures c.in_ok-command.was c.in-Make.is in
-    let (calls, b, is, made) = begins a.bytes.now _ first in
-    let size : length a.bytes.now ≡ suc (suc (suc (length c.in_ok-command.rest.now))) = ap (λ (ys : List ℕ). length ys) is in
+    let size = length-making a.bytes.now _ _ _ first in
     let room = c.requires.places in
     omega arith
 
@@ -83,7 +80,6 @@ pub follow-requires-clause-space : goal.follow-requires-clause-space
 follow-requires-clause-space g c =
     let a = c.args in
     let first = first_command-ok a.bytes.now a.place c.first_command.result c.first_command.ensures c.with_place.ensures c.in_ok-command.was c.in-Make.is in
-    let (calls, b, is, made) = begins a.bytes.now _ first in
-    let size : length a.bytes.now ≡ suc (suc (suc (length c.in_ok-command.rest.now))) = ap (λ (ys : List ℕ). length ys) is in
+    let size = length-making a.bytes.now _ _ _ first in
     let room = c.requires.space in
     omega arith
