@@ -38,10 +38,10 @@ module _ (m : Meaning ℕ) (some all : ℕ → Bool) where
     -- one answer more, of any unit
     one_line : (v : ℕ) (a : Answer ℕ) (ls : List MarkLine) (answers : List (Answer ℕ)) → lines_of u ls ≡ lines_by answers
         → lines_of u (line m some all v a ++ ls) ≡ lines_by (if u == v then a ∷ answers else answers)
-    one_line v (own_clock clock) ls answers h = elim (cases_eq u v) [ inl e ↦ rw (eq-eqb u v e) h | inr ne ↦ rw (ne_eqb u v ne) h ]
-    one_line v (marked clock predecessors x) ls answers h = elim (cases_eq u v) [
-      | inl e ↦ rw (eq-eqb u v e) (rw (← e) (ap (λ (l : List MarkLine). record { unit = u; clock = clock; predecessors = predecessors; states = x; some = some x; all = all x } ∷ l) h))
-      | inr ne ↦ rw (ne_eqb u v ne) h
+    one_line v (own_clock clock) ls answers others = elim (cases_eq u v) [ inl e ↦ rw (eq-eqb u v e) others | inr ne ↦ rw (ne_eqb u v ne) others ]
+    one_line v (marked clock predecessors x) ls answers others = elim (cases_eq u v) [
+      | inl e ↦ rw (eq-eqb u v e) (rw (← e) (ap (λ (l : List MarkLine). record { unit = u; clock = clock; predecessors = predecessors; states = x; some = some x; all = all x } ∷ l) others))
+      | inr ne ↦ rw (ne_eqb u v ne) others
     ]
 
     module _ (M : Payload ℕ) (z : Size) where

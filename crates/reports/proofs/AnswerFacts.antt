@@ -52,8 +52,8 @@ module _ (m : Meaning ℕ) {n k : ℕ} (some all : ℕ → Bool) {old new : Memo
   call_answers x obeys said = (x, subst (λ (f : Event). Obeys (load m) n k (call c.unit (event f)) old new x) (sym is) obeys, said)
 
   pub clock_answers : (r : Result ℕ Refusal) → Obeys (load m) n k (call c.unit (event e)) old new (clock_told r) → result ≡ clock_line r → AnswersCall m n k some all old new c result
-  clock_answers r obeys told = call_answers (clock_told r) obeys (told ∙ clock_line-is some all c.unit r)
+  clock_answers r obeys is_line = call_answers (clock_told r) obeys (is_line ∙ clock_line-is some all c.unit r)
 
   pub mark_answers : (r : Result (JudgedMark ℕ) Refusal) → Obeys (load m) n k (call c.unit (event e)) old new (judged_told r) → VerdictIs some all c.unit r → result ≡ judged_line c.unit r
       → AnswersCall m n k some all old new c result
-  mark_answers r obeys says told = call_answers (judged_told r) obeys (told ∙ judged_line-is some all c.unit r says)
+  mark_answers r obeys says is_line = call_answers (judged_told r) obeys (is_line ∙ judged_line-is some all c.unit r says)

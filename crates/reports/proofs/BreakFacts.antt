@@ -36,16 +36,16 @@ module _ (M : Payload ℕ) (z : Size) where
       × (refusal M z (run_from M z h (reads M z h.state cs)).state c.unit c.act ≡ Some e) × (Refused e ≡ f.reason) × (f.place ≡ place + 3 * length (reads M z h.state cs)))
 
   pub break_off : (h : History ℕ) (cs : List Call) → BreakOff h cs
-  break_off = by_calls M z BreakOff (λ h place closing f is. inl (is, refl)) took turned
+  break_off = by_calls M z BreakOff (λ h place closing f is. inl (is, refl)) if_accepted if_refused
     where
-      took : (h : History ℕ) (c : Call) (cs : List Call) → refusal M z h.state c.unit c.act ≡ None → BreakOff (taken M z h c) cs → BreakOff h (c ∷ cs)
-      took h c cs ok ih = rw (ok, ok) (λ place closing f is. elim (ih (place + 3) closing f is) [
+      if_accepted : (h : History ℕ) (c : Call) (cs : List Call) → refusal M z h.state c.unit c.act ≡ None → BreakOff (taken M z h c) cs → BreakOff h (c ∷ cs)
+      if_accepted h c cs ok ih = rw (ok, ok) (λ place closing f is. elim (ih (place + 3) closing f is) [
         | inl (p, q) ↦ inl (p, ap (λ (l : List Call). c ∷ l) q)
         | inr (e, d, after, p, r, s, t) ↦ inr (e, d, after, ap (λ (l : List Call). c ∷ l) p, r, s, omega arith)
       ])
 
-      turned : (h : History ℕ) (c : Call) (cs : List Call) (x : Refusal) → refusal M z h.state c.unit c.act ≡ Some x → BreakOff h cs → BreakOff h (c ∷ cs)
-      turned h c cs x not same = rw not (λ place closing f is.
+      if_refused : (h : History ℕ) (c : Call) (cs : List Call) (x : Refusal) → refusal M z h.state c.unit c.act ≡ Some x → BreakOff h cs → BreakOff h (c ∷ cs)
+      if_refused h c cs x not same = rw not (λ place closing f is.
           let (p, q) = same_break (Refused x) place f is in
           inr (x, c, cs, refl, not, p, omega arith))
 
@@ -77,7 +77,7 @@ module _ (b : List ℕ) where
 
   -- what a fault says stands where it says
   breaks_at_fault : (place : ℕ) (reason : Reason) (f : RecordingFault) → Breaks b place reason → ((reason ≡ f.reason) × (place ≡ f.place)) → Breaks b f.place f.reason
-  breaks_at_fault place reason f breaks s = subst (λ (p : ℕ). Breaks b p f.reason) s.1 (subst (λ (r : Reason). Breaks b place r) s.0 breaks)
+  breaks_at_fault place reason f breaks same = subst (λ (p : ℕ). Breaks b p f.reason) same.1 (subst (λ (r : Reason). Breaks b place r) same.0 breaks)
 
   -- a board that is made
   module _ (n k : ℕ) (rest : List ℕ) (first : first_command bytes ≡ Ok (commands.Make n k, rest)) (made : make_refusal n k true ≡ None) (f : RecordingFault) where
@@ -113,17 +113,17 @@ module _ (b : List ℕ) where
 
     -- What closes the calls of a board breaks off as it says, less than three bytes after them.
     closes : AfterCalls b last → (left : ℕ) (r : Result (Command × List ℕ) Reason) → first_command tail ≡ r → end_after_calls left last r ≡ Err f → (i : ℕ) × (i < 3) × (f.place ≡ last + i) × Breaks b f.place f.reason
-    closes at left (Err reason) is e =
-        let s = same_break reason last f e in
-        (0, omega arith, omega arith, breaks_at_fault last reason f (breaks_of_form last reason (begins tail _ is).1 (inr at) (ap first_command (there _ last refl) ∙ is)) s)
-    closes at left (Ok (commands.End, [])) is e = absurd (cc)
-    closes at left (Ok (commands.End, x ∷ more)) is e =
-        let s = same_break BytesAfterEnd (last + 1) f e in
-        (1, omega arith, omega arith, breaks_at_fault (last + 1) BytesAfterEnd f (last, omega arith, at, x, more, ap first_command (there _ last refl) ∙ is) s)
-    closes at left (Ok (commands.Make u v, more)) is e =
-        let s = same_break SecondBoard last f e in
-        (0, omega arith, omega arith, breaks_at_fault last SecondBoard f (at, u, v, more, ap first_command (there _ last refl) ∙ is) s)
-    closes at left (Ok (commands.Call c, more)) is e =
+    closes at left (Err reason) is ends =
+        let same = same_break reason last f ends in
+        (0, omega arith, omega arith, breaks_at_fault last reason f (breaks_of_form last reason (begins tail _ is).1 (inr at) (ap first_command (there _ last refl) ∙ is)) same)
+    closes at left (Ok (commands.End, [])) is ends = absurd (cc)
+    closes at left (Ok (commands.End, x ∷ more)) is ends =
+        let same = same_break BytesAfterEnd (last + 1) f ends in
+        (1, omega arith, omega arith, breaks_at_fault (last + 1) BytesAfterEnd f (last, omega arith, at, x, more, ap first_command (there _ last refl) ∙ is) same)
+    closes at left (Ok (commands.Make u v, more)) is ends =
+        let same = same_break SecondBoard last f ends in
+        (0, omega arith, omega arith, breaks_at_fault last SecondBoard f (at, u, v, more, ap first_command (there _ last refl) ∙ is) same)
+    closes at left (Ok (commands.Call c, more)) is ends =
         let none = calls_after rest (calls_in rest) [] (sym (append-nil (calls_in rest))) in
         let (x, y, same, some) = begins tail _ is in
         absurd (cc)
@@ -163,18 +163,18 @@ module _ (b : List ℕ) where
     -- what breaks off at once has no calls, and none before the break
     at_once : (reason : Reason) → transcript_in b ≡ empty_transcript (judge_in b) (some_in b) (all_in b) reason (recording_at b) → Breaks b (recording_at b) reason → Broke
     at_once reason is breaks =
-        let s = same_break reason (recording_at b) f (sym (ap (λ (t : Transcript). t.end) is) ∙ ends) in
+        let same = same_break reason (recording_at b) f (sym (ap (λ (t : Transcript). t.end) is) ∙ ends) in
         let at : f.place ≡ recording_at b + 0 = omega arith in
         let none : drop (recording_at b + 3) (take f.place b) ≡ [] =
         ap (λ (p : ℕ). drop (recording_at b + 3) (take p b)) at ∙ sym (drop-drop 3 (recording_at b) (take (recording_at b + 0) b)) ∙ ap (drop 3) (drop-take (recording_at b) 0 b) in
-        (ap (λ (t : Transcript). t.calls) is ∙ ap calls_in (sym none), breaks_at_fault (recording_at b) reason f breaks s)
+        (ap (λ (t : Transcript). t.calls) is ∙ ap calls_in (sym none), breaks_at_fault (recording_at b) reason f breaks same)
 
     by_making : (n k : ℕ) (rest : List ℕ) → first_command bytes ≡ Ok (commands.Make n k, rest) → (o : Option Refusal) → make_refusal n k true ≡ o → Broke
     by_making n k rest first (Some e) not = at_once (Refused e) (by_board n k rest first (Some e) not) (inl (refl, n, k, rest, first, not))
     by_making n k rest first None ok =
-        let told = by_board n k rest first None ok in
-        let (calls, breaks) = on_board n k rest first ok f (sym (ap (λ (t : Transcript). t.end) told) ∙ ends) in
-        (ap (λ (t : Transcript). t.calls) told ∙ calls, breaks)
+        let by_size = by_board n k rest first None ok in
+        let (calls, breaks) = on_board n k rest first ok f (sym (ap (λ (t : Transcript). t.end) by_size) ∙ ends) in
+        (ap (λ (t : Transcript). t.calls) by_size ∙ calls, breaks)
 
     by_first : (r : Result (Command × List ℕ) Reason) → first_command bytes ≡ r → Broke
     by_first (Err reason) is = at_once reason (ap (transcript_from (judge_in b) (some_in b) (all_in b) (recording_at b)) is) (breaks_of_form (recording_at b) reason (begins bytes _ is).1 (inl refl) is)

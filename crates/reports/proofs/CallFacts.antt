@@ -17,7 +17,7 @@ use Rattle.reports.specs.declared.faults.RecordingFault.{RecordingFault}
 use Rattle.reports.specs.declared.lines.MarkLine.{MarkLine}
 use Rattle.reports.specs.Commands.{making_size, first_command, event_in, calls_with_first, calls_in}
 use Rattle.reports.specs.Faults.{fault_at}
-use Rattle.reports.specs.Recordings.{Transcript, end_after_calls, ending, before_refusal, line, lines, transcript_on}
+use Rattle.reports.specs.Recordings.{Transcript, end_after_calls, ending, calls_before_refusal, line, lines, transcript_on}
 
 -- What comes after a call and n more is what comes after these n.
 drop-call : (n b u x : ℕ) (rest : List ℕ) → drop (3 * suc n) (b ∷ (u ∷ (x ∷ rest))) ≡ drop (3 * n) rest
@@ -25,17 +25,17 @@ drop-call n b u x rest = let three : 3 * suc n ≡ suc (suc (suc (3 * n))) = ome
 
 -- The calls after the first are those in the bytes after it.
 first_call_rest : (u : ℕ) (o : Option Event) (cs : List Call) (c : Call) (ds : List Call) → calls_with_first u o cs ≡ c ∷ ds → cs ≡ ds
-first_call_rest u None cs c ds h = absurd (cc)
-first_call_rest u (Some e) cs c ds h = cc
+first_call_rest u None cs c ds same = absurd (cc)
+first_call_rest u (Some e) cs c ds same = cc
 
 -- After the first of the calls, three bytes further on for each, stand the others.
 pub calls_after : (bytes : List ℕ) (before after : List Call) → calls_in bytes ≡ before ++ after → calls_in (drop (3 * length before) bytes) ≡ after
-calls_after bytes [] after h = h
-calls_after [] (c ∷ before) after h = absurd (cc)
-calls_after (b ∷ []) (c ∷ before) after h = absurd (cc)
-calls_after (b ∷ (u ∷ [])) (c ∷ before) after h = absurd (cc)
-calls_after (b ∷ (u ∷ (x ∷ rest))) (c ∷ before) after h =
-    ap calls_in (drop-call (length before) b u x rest) ∙ calls_after rest before after (first_call_rest u (event_in b x) (calls_in rest) c (before ++ after) h)
+calls_after bytes [] after split = split
+calls_after [] (c ∷ before) after split = absurd (cc)
+calls_after (b ∷ []) (c ∷ before) after split = absurd (cc)
+calls_after (b ∷ (u ∷ [])) (c ∷ before) after split = absurd (cc)
+calls_after (b ∷ (u ∷ (x ∷ rest))) (c ∷ before) after split =
+    ap calls_in (drop-call (length before) b u x rest) ∙ calls_after rest before after (first_call_rest u (event_in b x) (calls_in rest) c (before ++ after) split)
 
 -- So many bytes after a making stand so many bytes of the rest.
 pub after_making : (from : ℕ) (b rest : List ℕ) → rest ≡ drop making_size (drop from b) → (i place : ℕ) → place ≡ from + making_size + i → drop place b ≡ drop i rest
@@ -53,19 +53,19 @@ few_bytes (suc (suc (suc i))) small (b ∷ (u ∷ rest)) = absurd (omega arith)
 
 -- Up to the first of the calls, three bytes for each, and fewer than three bytes more, stand just these.
 pub calls_before : (i : ℕ) → i < 3 → (bytes : List ℕ) (before after : List Call) → calls_in bytes ≡ before ++ after → calls_in (take (3 * length before + i) bytes) ≡ before
-calls_before i small bytes [] after h = ap (λ (n : ℕ). calls_in (take n bytes)) (omega arith) ∙ few_bytes i small bytes
-calls_before i small [] (c ∷ before) after h = absurd (cc)
-calls_before i small (b ∷ []) (c ∷ before) after h = absurd (cc)
-calls_before i small (b ∷ (u ∷ [])) (c ∷ before) after h = absurd (cc)
-calls_before i small (b ∷ (u ∷ (x ∷ rest))) (c ∷ before) after h =
+calls_before i small bytes [] after split = ap (λ (n : ℕ). calls_in (take n bytes)) (omega arith) ∙ few_bytes i small bytes
+calls_before i small [] (c ∷ before) after split = absurd (cc)
+calls_before i small (b ∷ []) (c ∷ before) after split = absurd (cc)
+calls_before i small (b ∷ (u ∷ [])) (c ∷ before) after split = absurd (cc)
+calls_before i small (b ∷ (u ∷ (x ∷ rest))) (c ∷ before) after split =
     let three : 3 * suc (length before) + i ≡ suc (suc (suc (3 * length before + i))) = omega arith in
     ap (λ (n : ℕ). calls_in (take n (b ∷ (u ∷ (x ∷ rest))))) three
-    ∙ one (event_in b x) h (calls_before i small rest before after (first_call_rest u (event_in b x) (calls_in rest) c (before ++ after) h))
+    ∙ one (event_in b x) split (calls_before i small rest before after (first_call_rest u (event_in b x) (calls_in rest) c (before ++ after) split))
   where
     one : (o : Option Event) → calls_with_first u o (calls_in rest) ≡ c ∷ (before ++ after) → calls_in (take (3 * length before + i) rest) ≡ before
         → calls_with_first u o (calls_in (take (3 * length before + i) rest)) ≡ c ∷ before
-    one None e ih = absurd (cc)
-    one (Some x) e ih = cc
+    one None same earlier = absurd (cc)
+    one (Some x) same earlier = cc
 
 -- the transcript of a board that was handed no call
 abbrev pub end_transcript : ℕ → ℕ → Result ℕ RecordingFault → Transcript
@@ -87,7 +87,7 @@ module _ (m : Meaning ℕ) (some all : ℕ → Bool) (n k : ℕ) (s : State ℕ)
   transcript_by_answers cs xs t = record {
     units = n;
     messages = k;
-    calls = before_refusal cs xs;
+    calls = calls_before_refusal cs xs;
     lines = lines m some all cs xs;
     end = ending place xs (end_after_calls (travelling t.posts k) (place + 3 * length cs) (first_command (drop (3 * length cs) bytes)));
   }

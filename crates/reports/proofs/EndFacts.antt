@@ -24,7 +24,7 @@ use Rattle.reports.specs.declared.commands.Command.TheVariants as commands
 use Rattle.reports.specs.declared.faults.Reason.{Reason}
 use Rattle.reports.specs.declared.faults.RecordingFault.{RecordingFault}
 use Rattle.reports.specs.Commands.{first_command, calls_in}
-use Rattle.reports.specs.Recordings.{Transcript, end_after_calls, ending, before_refusal, transcript_on, transcript}
+use Rattle.reports.specs.Recordings.{Transcript, end_after_calls, ending, calls_before_refusal, transcript_on, transcript}
 use Rattle.reports.specs.Reports.{recording_at, judge_in, some_in, all_in, transcript_in}
 use Rattle.reports.specs.Laws.{AfterCalls}
 use Rattle.reports.proofs.CallFacts.{after_making}
@@ -95,19 +95,19 @@ module _ {V : Type 0} (M : Payload V) (z : Size) where
   ending_ok (c ∷ cs) s place left closing e = one (outcome M z s c) (outcomes_from M z (next M z s c) cs) (ending_ok cs (next M z s c) (place + 3) left closing) e
     where
       one : (r : Result (Answer V) Refusal) (xs : List (Result (Answer V) Refusal))
-          → (ending (place + 3) xs closing ≡ Ok left → (closing ≡ Ok left) × (before_refusal cs xs ≡ cs)) → ending place (r ∷ xs) closing ≡ Ok left
-          → (closing ≡ Ok left) × (before_refusal (c ∷ cs) (r ∷ xs) ≡ c ∷ cs)
+          → (ending (place + 3) xs closing ≡ Ok left → (closing ≡ Ok left) × (calls_before_refusal cs xs ≡ cs)) → ending place (r ∷ xs) closing ≡ Ok left
+          → (closing ≡ Ok left) × (calls_before_refusal (c ∷ cs) (r ∷ xs) ≡ c ∷ cs)
       one (Ok a) xs ih e = let (p, q) = ih e in (p, ap (λ (l : List Call). c ∷ l) q)
       one (Err x) xs ih e = cc
 
 -- What ends a recording well is an end with nothing after it, and leaves what is left.
 end_after_calls-ok : (left place : ℕ) (r : Result (Command × List ℕ) Reason) (x : ℕ) → end_after_calls left place r ≡ Ok x
     → (r ≡ Ok (commands.End, [])) × (left ≡ x)
-end_after_calls-ok left place (Err reason) x e = cc
-end_after_calls-ok left place (Ok (commands.End, [])) x e = (refl, cc)
-end_after_calls-ok left place (Ok (commands.End, y ∷ rest)) x e = cc
-end_after_calls-ok left place (Ok (commands.Make n k, rest)) x e = cc
-end_after_calls-ok left place (Ok (commands.Call c, rest)) x e = cc
+end_after_calls-ok left place (Err reason) x ends = cc
+end_after_calls-ok left place (Ok (commands.End, [])) x ends = (refl, cc)
+end_after_calls-ok left place (Ok (commands.End, y ∷ rest)) x ends = cc
+end_after_calls-ok left place (Ok (commands.Make n k, rest)) x ends = cc
+end_after_calls-ok left place (Ok (commands.Call c, rest)) x ends = cc
 
 module _ (m : Meaning ℕ) (some all : ℕ → Bool) where
   -- Where a recording on a board ends well, it leaves the messages on their way after the calls read.
@@ -118,10 +118,10 @@ module _ (m : Meaning ℕ) (some all : ℕ → Bool) where
       let z = sized m n k most_marks in
       let cs = calls_in bytes in
       let after = first_command (drop (3 * length cs) bytes) in
-      let (p, q) = ending_ok M z cs (new_state M) place x (end_after_calls (travelling (state_from M z (new_state M) cs).posts k) (place + 3 * length cs) after) e in
-      sym (end_after_calls-ok _ _ _ x p).1
+      let (good, all_read_so) = ending_ok M z cs (new_state M) place x (end_after_calls (travelling (state_from M z (new_state M) cs).posts k) (place + 3 * length cs) after) e in
+      sym (end_after_calls-ok _ _ _ x good).1
       ∙ ap (λ (s : State ℕ). travelling s.posts k) (last_run M z cs)
-      ∙ ap (λ (l : List Call). travelling (run M z l).state.posts k) (sym q)
+      ∙ ap (λ (l : List Call). travelling (run M z l).state.posts k) (sym all_read_so)
 
   -- Where any recording ends well, all of its calls are read.
   transcript_whole : (place : ℕ) (bytes : List ℕ) (left : ℕ) → (transcript m some all place bytes).end ≡ Ok left → (transcript m some all place bytes).calls ≡ calls_in (drop 3 bytes)

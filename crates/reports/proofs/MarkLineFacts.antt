@@ -47,13 +47,13 @@ module _ (b : List ℕ) (sound : front_fault b ≡ None) (n k : ℕ) where
   -- A mark after accepted calls has a line, which tells of the longest flows that end there.
   mark_line : (before : List Call) (u l : ℕ) → AllTaken M z new before → refusal M z (run M z before).state u (mark l) ≡ None
       → (line : MarkLine) × (line_at (judge_in b) (some_in b) (all_in b) M z (run M z before) (call u (mark l)) ≡ line ∷ []) × Tells b (events_in (with_mark before u l)) u (length (by_unit before u)) line
-  mark_line before u l t ok =
-      let (v, says) = sets_tell b sound n k most_marks (with_mark before u l) u (length (by_unit before u)) l (mark_there M z before u l t ok) in
+  mark_line before u l taken allowed =
+      let (v, says) = sets_tell b sound n k most_marks (with_mark before u l) u (length (by_unit before u)) l (mark_there M z before u l taken allowed) in
       let a = v.answered in
-      let told : MarkLine = record { unit = u; clock = a.clock; predecessors = a.predecessors; states = a.value; some = some_in b a.value; all = all_in b a.value } in (
-        told,
-        sym (ap (line (judge_in b) (some_in b) (all_in b) u) (answer_is M z before u l t ok (record { answer = marked a.clock a.predecessors a.value; stamp = a.stamp }) a.told)),
-        subst (λ (ev : Events). Tells b ev u (length (by_unit before u)) told) (events_are M z before u l t ok)
+      let own : MarkLine = record { unit = u; clock = a.clock; predecessors = a.predecessors; states = a.value; some = some_in b a.value; all = all_in b a.value } in (
+        own,
+        sym (ap (line (judge_in b) (some_in b) (all_in b) u) (answer_is M z before u l taken allowed (record { answer = marked a.clock a.predecessors a.value; stamp = a.stamp }) a.told)),
+        subst (λ (ev : Events). Tells b ev u (length (by_unit before u)) own) (events_are M z before u l taken allowed)
             (record { unit_is = refl; clock_is = a.clock_is; predecessors_are = a.predecessors_are; states_are = says.0; verdict = says.1 }),
       )
 
@@ -71,18 +71,18 @@ module _ (b : List ℕ) (sound : front_fault b ≡ None) (n k : ℕ) where
   line_on : (cs before after : List Call) (u l : ℕ) → reads M z (new_state M) cs ≡ before ++ call u (mark l) ∷ after
       → (line : MarkLine) × (slice_get (lines_from new cs) (marks_among before) ≡ Some line) × Tells b (events_in (with_mark before u l)) u (length (by_unit before u)) line
   line_on cs before after u l e =
-      let (t, rest) = taken_parts M z new before (call u (mark l) ∷ after) (subst (AllTaken M z new) e (reads_taken M z new cs)) in
-      let (told, is, tells) = mark_line before u l t rest.0 in
+      let (taken, rest) = taken_parts M z new before (call u (mark l) ∷ after) (subst (AllTaken M z new) e (reads_taken M z new cs)) in
+      let (own, is, tells) = mark_line before u l taken rest.0 in
       let later = lines_from (next M z (run M z before) (call u (mark l))) after in (
-        told,
+        own,
         ap (λ (ls : List MarkLine). slice_get ls (marks_among before))
             (reads_lines (judge_in b) (some_in b) (all_in b) M z new cs
             ∙ ap (lines_from new) e
-            ∙ lines_append (judge_in b) (some_in b) (all_in b) M z new before (call u (mark l) ∷ after) t
+            ∙ lines_append (judge_in b) (some_in b) (all_in b) M z new before (call u (mark l) ∷ after) taken
             ∙ ap (λ (ls : List MarkLine). lines_from new before ++ ls)
             (lines_more (judge_in b) (some_in b) (all_in b) M z (run M z before) (call u (mark l)) after rest.0 ∙ ap (λ (ls : List MarkLine). ls ++ later) is))
-            ∙ ap (slice_get (lines_from new before ++ told ∷ later)) (sym (lines_count (judge_in b) (some_in b) (all_in b) M z new before t))
-            ∙ seam (lines_from new before) told later,
+            ∙ ap (slice_get (lines_from new before ++ own ∷ later)) (sym (lines_count (judge_in b) (some_in b) (all_in b) M z new before taken))
+            ∙ seam (lines_from new before) own later,
         tells,
       )
 

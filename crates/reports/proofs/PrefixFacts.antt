@@ -8,7 +8,7 @@ pub record AgreeTo (p : ℕ) (b d : List ℕ) : Type 0 where
 
 -- Texts that are the same so far were the same before.
 pub take_shorter : (xs ys : List ℕ) (m n : ℕ) → m ≤ n → take n xs ≡ take n ys → take m xs ≡ take m ys
-take_shorter xs ys m n h e = sym (take-take m n xs h) ∙ ap (λ (t : List ℕ). take m t) e ∙ take-take m n ys h
+take_shorter xs ys m n shorter same = sym (take-take m n xs shorter) ∙ ap (λ (t : List ℕ). take m t) same ∙ take-take m n ys shorter
 
 -- An input agrees with its part.
 pub agree_part : (p : ℕ) (b : List ℕ) → AgreeTo p b (take p b)

@@ -30,11 +30,11 @@ use Rattle.reports.proofs.TranscriptFacts.{reads, reads_taken, transcript_cases}
 
 -- Bytes that close a recording refuse nothing.
 end_after_calls-refuses_nothing : (left place : ℕ) (r : Result (Command × List ℕ) Reason) (e : Refusal) (p : ℕ) → (r ≡ Err (Refused e) → ⊥) → end_after_calls left place r ≡ Err (fault_at (Refused e) p) → ⊥
-end_after_calls-refuses_nothing left place (Err reason) e p none h = none (ap (λ (x : Reason). Err x) (same_break reason place (fault_at (Refused e) p) h).0)
-end_after_calls-refuses_nothing left place (Ok (commands.End, [])) e p none h = cc
-end_after_calls-refuses_nothing left place (Ok (commands.End, x ∷ rest)) e p none h = let s = (same_break BytesAfterEnd (place + 1) (fault_at (Refused e) p) h).0 in cc
-end_after_calls-refuses_nothing left place (Ok (commands.Make n k, rest)) e p none h = let s = (same_break SecondBoard place (fault_at (Refused e) p) h).0 in cc
-end_after_calls-refuses_nothing left place (Ok (commands.Call c, rest)) e p none h = let s = (same_break SecondBoard place (fault_at (Refused e) p) h).0 in cc
+end_after_calls-refuses_nothing left place (Err reason) e p none ends = none (ap (λ (x : Reason). Err x) (same_break reason place (fault_at (Refused e) p) ends).0)
+end_after_calls-refuses_nothing left place (Ok (commands.End, [])) e p none ends = cc
+end_after_calls-refuses_nothing left place (Ok (commands.End, x ∷ rest)) e p none ends = let s = (same_break BytesAfterEnd (place + 1) (fault_at (Refused e) p) ends).0 in cc
+end_after_calls-refuses_nothing left place (Ok (commands.Make n k, rest)) e p none ends = let s = (same_break SecondBoard place (fault_at (Refused e) p) ends).0 in cc
+end_after_calls-refuses_nothing left place (Ok (commands.Call c, rest)) e p none ends = let s = (same_break SecondBoard place (fault_at (Refused e) p) ends).0 in cc
 
 module _ (M : Payload ℕ) (z : Size) (bytes : List ℕ) where
   -- the calls that were read
@@ -43,9 +43,9 @@ module _ (M : Payload ℕ) (z : Size) (bytes : List ℕ) where
 
   -- A call that is refused after them is none that could come next.
   refused_impossible : (c : Call) (e : Refusal) → refusal M z (run M z seen).state c.unit c.act ≡ Some e → Possible z (by_unit seen) c.unit c.act → ⊥
-  refused_impossible c e r p =
-      let ok = ((accepts_runs M z seen).next_call c.unit c.act).1 (subst (λ (logs : Logs). Possible z logs c.unit c.act) (sym (log_is M z seen (reads_taken M z (new_history M) (calls_in bytes)))) p) in
-      none-some e (sym ok ∙ r)
+  refused_impossible c e refused_so could =
+      let ok = ((accepts_runs M z seen).next_call c.unit c.act).1 (subst (λ (logs : Logs). Possible z logs c.unit c.act) (sym (log_is M z seen (reads_taken M z (new_history M) (calls_in bytes)))) could) in
+      none-some e (sym ok ∙ refused_so)
 
   -- So it is of the call that stands where the answers break a recording off.
   broken_impossible : (place : ℕ) (closing : Result ℕ RecordingFault) (e : Refusal) (at : ℕ) → (closing ≡ Err (fault_at (Refused e) at) → ⊥)
@@ -71,24 +71,24 @@ module _ (b : List ℕ) where
 
   -- So it is of a recording that breaks off before any call, since no call comes first.
   on_nothing : (reason : Reason) → transcript_in b ≡ empty_transcript (judge_in b) (some_in b) (all_in b) reason (recording_at b) → RefusedIn (empty_transcript (judge_in b) (some_in b) (all_in b) reason (recording_at b))
-  on_nothing reason t e place is c cs h p =
-      let (r, at) = same_break reason (recording_at b) (fault_at (Refused e) place) is in
-      let (x, rest, f) = begins_call bytes c cs (ap (λ (i : ℕ). calls_in (drop i b)) at ∙ h) in
-      let s = ap (transcript_from (judge_in b) (some_in b) (all_in b) (recording_at b)) f in
-      let same = (same_break NoBoard (recording_at b) (fault_at reason (recording_at b)) (sym (ap (λ (y : Transcript). y.end) s) ∙ ap (λ (y : Transcript). y.end) t)).0 in
+  on_nothing reason is_nothing e place is c cs here could =
+      let (same_reason, at) = same_break reason (recording_at b) (fault_at (Refused e) place) is in
+      let (x, rest, first) = begins_call bytes c cs (ap (λ (i : ℕ). calls_in (drop i b)) at ∙ here) in
+      let by_first = ap (transcript_from (judge_in b) (some_in b) (all_in b) (recording_at b)) first in
+      let same = (same_break NoBoard (recording_at b) (fault_at reason (recording_at b)) (sym (ap (λ (y : Transcript). y.end) by_first) ∙ ap (λ (y : Transcript). y.end) is_nothing)).0 in
       cc
 
   -- And so it is on a board.
   on_board : (n k : ℕ) (rest : List ℕ) → rest ≡ drop 3 bytes → RefusedIn (transcript_on (judge_in b) (some_in b) (all_in b) n k (new_state (carrying (judge_in b) n)) (recording_at b + 3) rest)
-  on_board n k rest three e place is c cs h p =
+  on_board n k rest three e place is c cs here could =
       let M = carrying (judge_in b) n in
       let z = sized (judge_in b) n k most_marks in
       let all = calls_in rest in
       let tail = drop (3 * length all) rest in
       let left = travelling (state_from M z (new_state M) all).posts k in
       let end = recording_at b + 3 + 3 * length all in
-      broken_impossible M z rest (recording_at b + 3) (end_after_calls left end (first_command tail)) e place (end_after_calls-refuses_nothing left end (first_command tail) e place (λ h. (begins tail (Err (Refused e)) h).1)) is c cs
-      (λ i at. ap calls_in (sym (after_making (recording_at b) b rest three i place at)) ∙ h) p
+      broken_impossible M z rest (recording_at b + 3) (end_after_calls left end (first_command tail)) e place (end_after_calls-refuses_nothing left end (first_command tail) e place (λ here. (begins tail (Err (Refused e)) here).1)) is c cs
+      (λ i at. ap calls_in (sym (after_making (recording_at b) b rest three i place at)) ∙ here) could
 
   -- A call that is refused, where a recording breaks off, is none that could come next.
   pub refused : RefusedIn (transcript_in b)

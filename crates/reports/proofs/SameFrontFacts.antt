@@ -23,7 +23,7 @@ use Rattle.reports.proofs.PrefixFacts.{AgreeTo, take_shorter, same_byte, same_by
 
 -- whether a byte is there and begins a relabelling, of one that is there and is the same
 begins_same : (at m n x y : ℕ) → at < n → x ≡ y → (nat_lt at m && y == 0x30) ≡ true → (nat_lt at n && x == 0x30) ≡ true
-begins_same at m n x y l e h = grind (arith, nat_tests)
+begins_same at m n x y inside same begins = grind (arith, nat_tests)
 
 -- an input with an accepted front reaches to its recording
 pub front_within : (b : List ℕ) → front_fault b ≡ None → recording_at b ≤ length b
@@ -68,7 +68,7 @@ head_rest first states labels start finals =
 
 -- the same numbers are as good
 head_same : (a c s t l m i j f g : ℕ) → a ≡ c → s ≡ t → l ≡ m → i ≡ j → f ≡ g → head_rest a s l i f ≡ None → head_rest c t m j g ≡ None
-head_same a c s t l m i j f g x y z w v h = rw (← x, ← y, ← z, ← w, ← v) h
+head_same a c s t l m i j f g x y z w v none = rw (← x, ← y, ← z, ← w, ← v) none
 
 -- the measure of a pattern under a relabelling, by their parts
 judge_of : (states labels start : ℕ) (table : List ℕ) (count : ℕ) (entries : List ℕ) → Meaning ℕ

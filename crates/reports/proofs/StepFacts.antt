@@ -109,8 +109,8 @@ module _ {m : Meaning ℕ} {some all : ℕ → Bool} {n k : ℕ} {s : State ℕ}
 
     -- One that is accepted is followed by the rest, once its line is written.
     pub accepts : (l : Option MarkLine) → t ≡ Ok l → (wrote : List ℕ) → wrote ≡ out ++ mark_lines (option_lines l) → Reached m some all n k s from bytes old new wrote (place + 3) more
-    accepts l told wrote is =
-        let (a, same, own) = answer_line-ok m some all c.unit x l (sym told ∙ said) in
+    accepts l accepted_so wrote is =
+        let (a, same, own) = answer_line-ok m some all c.unit x l (sym accepted_so ∙ said) in
         let (b, v, bytes, calls) = begins rest (Ok (commands.Call c, more)) first in
         let after = next (carrying m n) (sized m n k most_marks) reached.state (handed c) in
         let here = line m some all c.unit a in

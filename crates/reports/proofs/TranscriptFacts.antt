@@ -14,12 +14,12 @@ use Rattle.reports.specs.declared.faults.Reason.{Reason}
 use Rattle.reports.specs.declared.faults.Reason.TheVariants.{NoBoard, Refused}
 use Rattle.reports.specs.declared.lines.MarkLine.{MarkLine}
 use Rattle.reports.specs.Commands.{first_command}
-use Rattle.reports.specs.Recordings.{before_refusal, line, lines, empty_transcript, transcript_of_board, transcript_on, transcript_from, transcript}
+use Rattle.reports.specs.Recordings.{calls_before_refusal, line, lines, empty_transcript, transcript_of_board, transcript_on, transcript_from, transcript}
 
 module _ {V : Type 0} (M : Payload V) (z : Size) where
   -- the calls before the first refusal
   abbrev pub reads : State V → List Call → List Call
-  reads s cs = before_refusal cs (outcomes_from M z s cs)
+  reads s cs = calls_before_refusal cs (outcomes_from M z s cs)
 
   -- each call is accepted after those before it
   abbrev pub AllTaken : History V → List Call → Type 0
@@ -28,14 +28,14 @@ module _ {V : Type 0} (M : Payload V) (z : Size) where
 
   -- The calls before the first refusal are all accepted.
   pub reads_taken : (h : History V) (cs : List Call) → AllTaken h (reads h.state cs)
-  reads_taken = by_calls M z (λ h cs. AllTaken h (reads h.state cs)) (λ h. tt) (λ h c cs e ih. rw (e, e) (refl, ih)) (λ h c cs x e same. rw e tt)
+  reads_taken = by_calls M z (λ h cs. AllTaken h (reads h.state cs)) (λ h. tt) (λ h c cs allowed later. rw (allowed, allowed) (refl, later)) (λ h c cs refused_so allowed same. rw allowed tt)
 
   -- Where all are accepted, the accepted calls are all of them.
   pub taken_accepted : (h : History V) (cs : List Call) → AllTaken h cs → accepted_from M z h cs ≡ cs
-  taken_accepted h [] t = refl
-  taken_accepted h (c ∷ cs) t =
-      ap (λ (o : Option Refusal). if_taken o (c ∷ accepted_from M z (after M z h c) cs) (accepted_from M z (after M z h c) cs)) t.0
-      ∙ ap (λ (l : List Call). c ∷ l) (taken_accepted (after M z h c) cs t.1)
+  taken_accepted h [] taken = refl
+  taken_accepted h (c ∷ cs) taken =
+      ap (λ (o : Option Refusal). if_taken o (c ∷ accepted_from M z (after M z h c) cs) (accepted_from M z (after M z h c) cs)) taken.0
+      ∙ ap (λ (l : List Call). c ∷ l) (taken_accepted (after M z h c) cs taken.1)
 
   -- So they are all of the accepted calls among them.
   pub reads_ok : (h : History V) (cs : List Call) → accepted_from M z h (reads h.state cs) ≡ reads h.state cs

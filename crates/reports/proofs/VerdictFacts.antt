@@ -81,15 +81,15 @@ module _ (b : List ℕ) (sound : front_fault b ≡ None) where
   pub sets_tell : AtMarks (judge_in b) (SetTells b)
   sets_tell n k limit cs u i l e =
       let m = judge_in b in
-      let (v, judged) = marks_judged m admits laws (some_in b) (all_in b) (λ w. IsTrue (accepts b (in_pattern b w)))
+      let (valued, judged) = marks_judged m admits laws (some_in b) (all_in b) (λ w. IsTrue (accepts b (in_pattern b w)))
       (judges (some_in b) (meets_or (finals_in b)) pattern_recognizes.some_is) (judges (all_in b) (within_or (finals_in b)) pattern_recognizes.all_is) n k limit cs u i l e in (
-        v,
+        valued,
         (
           λ q.
-              (let held = Decides-eqb (bit v.answered.value q) 1 in
-              let reached = Decides-at _ _ (ap (λ (set : ℕ). has set q) v.value_is)
-              (some_decided m admits laws n k limit (accepted_events m n k limit cs) (ranged m admits laws n k limit cs) u i (λ set. has set q) (λ w. state_after b (in_pattern b w) ≡ q) v.flow v.flows v.all (judges_state q)) in
-              ((λ x. reached.0 (held.1 x)), (λ p. held.0 (reached.1 p)))),
+              (let is_held = Decides-eqb (bit valued.answered.value q) 1 in
+              let is_reached = Decides-at _ _ (ap (λ (set : ℕ). has set q) valued.value_is)
+              (some_decided m admits laws n k limit (accepted_events m n k limit cs) (ranged m admits laws n k limit cs) u i (λ set. has set q) (λ w. state_after b (in_pattern b w) ≡ q) valued.flow valued.flows valued.all (judges_state q)) in
+              ((λ x. is_reached.0 (is_held.1 x)), (λ p. is_held.0 (is_reached.1 p)))),
           judged,
         ),
       )

@@ -43,11 +43,11 @@ ending place (Ok a ∷ xs) closing = ending (place + call_size) xs closing
 ending place (Err e ∷ xs) closing = Err (fault_at (Refused e) place)
 
 -- the calls before the first that is refused
-abbrev pub before_refusal : {V : Type 0} → List Call → List (Result (Answer V) Refusal) → List Call
-before_refusal [] xs = []
-before_refusal (c ∷ cs) [] = []
-before_refusal (c ∷ cs) (Ok a ∷ xs) = c ∷ before_refusal cs xs
-before_refusal (c ∷ cs) (Err e ∷ xs) = []
+abbrev pub calls_before_refusal : {V : Type 0} → List Call → List (Result (Answer V) Refusal) → List Call
+calls_before_refusal [] xs = []
+calls_before_refusal (c ∷ cs) [] = []
+calls_before_refusal (c ∷ cs) (Ok a ∷ xs) = c ∷ calls_before_refusal cs xs
+calls_before_refusal (c ∷ cs) (Err e ∷ xs) = []
 
 module _ (m : Meaning ℕ) (some all : ℕ → Bool) where
   -- the line of an accepted call of unit u: only a mark has one
@@ -72,7 +72,7 @@ module _ (m : Meaning ℕ) (some all : ℕ → Bool) where
       record {
         units = n;
         messages = k;
-        calls = before_refusal cs xs;
+        calls = calls_before_refusal cs xs;
         lines = lines cs xs;
         end = ending place xs (end_after_calls left (place + call_size * length cs) (first_command (drop (call_size * length cs) bytes)));
       }

@@ -3,7 +3,7 @@
 ghost use Rattle.std.specs.Prelude.{◌≡◌, ◌+◌, ◌/◌, ◌%◌, ◌<◌, ◌≤◌, [], ◌∷◌, ◌++◌, length, take, drop, decimal};
 ghost use Rattle.text.specs.Hex.{digit_in_hex, hex_word};
 ghost use Rattle.text.specs.Lines.{bit};
-ghost use Rattle.reports.specs.Pages.{two};
+ghost use Rattle.reports.specs.Pages.{two_digits};
 
 // The two hexadecimal digits of each byte, one after the other.
 static HEX_PAIRS: [u8; 512] =
@@ -39,7 +39,7 @@ pub(crate) fn put_bit(bytes: &mut [u8], at: usize, yes: bool) -> usize
 #[inline(always)]
 fn put_pair(bytes: &mut [u8], at: usize, pair: u64) -> usize
     requires { (pair < 100) × (at + 2 ≤ length bytes.old) }
-    ensures text { take result bytes.new ≡ take at bytes.old ++ two pair }
+    ensures text { take result bytes.new ≡ take at bytes.old ++ two_digits pair }
     ensures end { result ≡ at + 2 }
 {
     let from = pair as usize * 2;

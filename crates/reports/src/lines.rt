@@ -28,9 +28,9 @@ pub(crate) struct Page {
 
 impl Model for Page {
     ghost use Rattle.std.specs.Prelude.{◌≤◌, length, take, vec_capacity};
-    ghost use Rattle.reports.specs.Pages.{Written};
+    ghost use Rattle.reports.specs.Pages.{PageText};
 
-    ghost Value = { Written };
+    ghost Value = { PageText };
 
     ghost view = { λ page.
         record { text = take page.len page.bytes.items; room = vec_capacity page.bytes } };

@@ -15,5 +15,5 @@ left_answer-shown start n k memory room there s shows =
 pub returns : goal.returns
 returns g c s shows =
     let a = c.args in
-    let told = left_answer-shown (g.J.Measure.meaning a.board.now.payload.measure).start a.board.now.units a.board.now.messages (lent a.clocks.now a.flags.now a.values.now a.posts.now) _ c.requires.room s shows in
-    search (told, rules)
+    let left = left_answer-shown (g.J.Measure.meaning a.board.now.payload.measure).start a.board.now.units a.board.now.messages (lent a.clocks.now a.flags.now a.values.now a.posts.now) _ c.requires.room s shows in
+    search (left, rules)

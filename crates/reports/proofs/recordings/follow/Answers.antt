@@ -53,7 +53,7 @@ loop-command-preserved-in-Some g c =
     let first = first_command-ok l.rest.now place c.first_command.result c.first_command.ensures c.with_place.ensures c.in_ok-command.was c.in-Call.is in
     let new = lent h.new.clocks h.new.flags h.new.values h.new.posts in
     let (x, obeys, said) = h.ensures in
-    let told = result_with_place-ok place h.result c.with_place-in-Call.ensures c.in_ok-line-in-Call.was in
+    let accepted = result_with_place-ok place h.result c.with_place-in-Call.ensures c.in_ok-line-in-Call.was in
     let size = length-call l.rest.now _ _ first in
     let i = l.invariant in
     let next : a.from + (length a.bytes.now - length c.in_ok-command.after.now) ≡ place + 3 = omega (arith, size, i.places) in
@@ -62,7 +62,7 @@ loop-command-preserved-in-Some g c =
       room = room_kept (g.J.Measure.meaning a.board.now.payload.measure).start a.board.now.units a.board.now.messages (lent l.clocks l.flags l.values l.posts) (lent h.new.clocks h.new.flags h.new.values h.new.posts) obeys.loans obeys.follows.beyond i.room;
       reached = λ s shows.
           rw next (accepts (i.reached s shows) first i.room {new = new} obeys said
-          (Some c.in-Some.line) (told ∙ ap (λ (o : Option MarkLine). Ok o) c.in-Some.is) c.push_mark.new.page.text
+          (Some c.in-Some.line) (accepted ∙ ap (λ (o : Option MarkLine). Ok o) c.in-Some.is) c.push_mark.new.page.text
           (w.text ∙ ap (λ (t : List ℕ). l.page.text ++ t) (sym (append-nil (line_of (mark_text c.in-Some.line))))));
       places = let so_far = i.places in omega arith;
       long = let so_far = i.long in let line = w.long in omega arith;
@@ -78,7 +78,7 @@ loop-command-preserved g c =
     let first = first_command-ok l.rest.now place c.first_command.result c.first_command.ensures c.with_place.ensures c.in_ok-command.was c.in-Call.is in
     let new = lent h.new.clocks h.new.flags h.new.values h.new.posts in
     let (x, obeys, said) = h.ensures in
-    let told = result_with_place-ok place h.result c.with_place-in-Call.ensures c.in_ok-line-in-Call.was in
+    let accepted = result_with_place-ok place h.result c.with_place-in-Call.ensures c.in_ok-line-in-Call.was in
     let size = length-call l.rest.now _ _ first in
     let i = l.invariant in
     let next : a.from + (length a.bytes.now - length c.in_ok-command.after.now) ≡ place + 3 = omega (arith, size, i.places) in
@@ -86,7 +86,7 @@ loop-command-preserved g c =
       room = room_kept (g.J.Measure.meaning a.board.now.payload.measure).start a.board.now.units a.board.now.messages (lent l.clocks l.flags l.values l.posts) (lent h.new.clocks h.new.flags h.new.values h.new.posts) obeys.loans obeys.follows.beyond i.room;
       reached = λ s shows.
           rw next (accepts (i.reached s shows) first i.room {new = new} obeys said
-          None (told ∙ ap (λ (o : Option MarkLine). Ok o) c.in_default.is) l.page.text (sym (append-nil l.page.text)));
+          None (accepted ∙ ap (λ (o : Option MarkLine). Ok o) c.in_default.is) l.page.text (sym (append-nil l.page.text)));
       places = let so_far = i.places in omega arith;
       long = let so_far = i.long in omega arith;
       space = i.space;

@@ -27,9 +27,9 @@ returns-in_err-board-clause-tells g c =
     c.new-clocks.ensures.width c.new-flags.ensures.width c.new-values.ensures.width (search rules) (search rules) (search rules) (length-replicate most_messages Unsent) in
     let (none, at) = result_with_place-err a.place c.with_reason.result c.with_place-2.ensures c.in_err-board.was in
     let (e, refused, why) = result_with_reason-err c.make-made.result c.with_reason.ensures none in
-    let asked = match_result-err _ (λ (d : Refusal). make_refusal n k room ≡ Some d) c.make-made.result c.make-made.ensures.board e refused in
+    let allowed = match_result-err _ (λ (d : Refusal). make_refusal n k room ≡ Some d) c.make-made.result c.make-made.ensures.board e refused in
     let carried : c.from_residual-in_err-board.result ≡ Err c.in_err-board.field-0.0 = search rules in
-    board_refused (g.J.Measure.meaning a.judge) (g.J.Judge.some_of a.judge) (g.J.Judge.all_of a.judge) a.place a.bytes.now c.in_ok-command.rest.now n k first e (sym by_size ∙ asked)
+    board_refused (g.J.Measure.meaning a.judge) (g.J.Judge.some_of a.judge) (g.J.Judge.all_of a.judge) a.place a.bytes.now c.in_ok-command.rest.now n k first e (sym by_size ∙ allowed)
     a.page.now.text _ (carried ∙ ap (λ (f : RecordingFault). Err f) (at ∙ ap (λ q. fault_at q a.place) why))
 
 pub returns-clause-tells : goal.returns-clause-tells
@@ -46,11 +46,11 @@ returns-clause-tells g c =
     let by_size = made_by_size n k (omega arith) c.new-clocks.result c.new-flags.result c.new-values.result (replicate most_messages Unsent)
     c.new-clocks.ensures.width c.new-flags.ensures.width c.new-values.ensures.width (search rules) (search rules) (search rules) (length-replicate most_messages Unsent) in
     let made = result_with_reason-ok c.make-made.result c.with_reason.ensures (result_with_place-ok a.place c.with_reason.result c.with_place-2.ensures c.in_ok-board.was) in
-    let (asked, units, messages, payload) = match_result-ok _ _ c.make-made.result c.make-made.ensures.board board made in
-    board_made (g.J.Measure.meaning a.judge) (g.J.Judge.some_of a.judge) (g.J.Judge.all_of a.judge) a.place a.bytes.now rest n k first (sym by_size ∙ asked) old new c.follow.result
+    let (allowed, units, messages, payload) = match_result-ok _ _ c.make-made.result c.make-made.ensures.board board made in
+    board_made (g.J.Measure.meaning a.judge) (g.J.Judge.some_of a.judge) (g.J.Judge.all_of a.judge) a.place a.bytes.now rest n k first (sym by_size ∙ allowed) old new c.follow.result
     (made_with g.J.Measure.meaning g.J.Judge.some_of g.J.Judge.all_of a.judge board.payload.measure (ap (λ p. p.measure) payload) n board.units units k board.messages messages
     (lent c.make-made.new.clocks c.make-made.new.flags c.make-made.new.values c.make-made.new.posts) old new (a.place + 3) rest c.follow.result c.follow.ensures.tells
-    (new_state (carrying (g.J.Measure.meaning a.judge) n)) (c.make-made.ensures.begins.makes.state asked))
+    (new_state (carrying (g.J.Measure.meaning a.judge) n)) (c.make-made.ensures.begins.makes.state allowed))
 
 pub returns-clause-long : goal.returns-clause-long
 returns-clause-long g c =
