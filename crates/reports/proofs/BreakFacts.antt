@@ -16,7 +16,7 @@ use Rattle.reports.specs.declared.commands.Command.TheVariants as commands
 use Rattle.reports.specs.declared.faults.Reason.{Reason}
 use Rattle.reports.specs.declared.faults.Reason.TheVariants.{NoByte, NoCommand, NoOperands, NoBoard, SecondBoard, BytesAfterEnd, Refused}
 use Rattle.reports.specs.declared.faults.RecordingFault.{RecordingFault}
-use Rattle.reports.specs.Commands.{first_command, calls_in}
+use Rattle.reports.specs.Commands.{making_size, call_size, first_command, calls_in}
 use Rattle.reports.specs.Laws.{AfterCalls, Breaks, RefusedCall}
 use Rattle.reports.specs.Recordings.{Transcript, end_after_calls, ending, transcript_from, empty_transcript, transcript_of_board, transcript_on}
 use Rattle.reports.specs.Reports.{judge_in, some_in, all_in, recording_at, transcript_in}
@@ -33,21 +33,21 @@ module _ (M : Payload ℕ) (z : Size) where
       (place : ℕ) (closing : Result ℕ RecordingFault) (f : RecordingFault) → ending place (outcomes_from M z h.state cs) closing ≡ Err f
       → ((closing ≡ Err f) × (reads M z h.state cs ≡ cs))
       ⊎ ((e : Refusal) × (c : Call) × (after : List Call) × (cs ≡ reads M z h.state cs ++ c ∷ after)
-      × (refusal M z (run_from M z h (reads M z h.state cs)).state c.unit c.act ≡ Some e) × (Refused e ≡ f.reason) × (f.place ≡ place + 3 * length (reads M z h.state cs)))
+      × (refusal M z (run_from M z h (reads M z h.state cs)).state c.unit c.act ≡ Some e) × (Refused e ≡ f.reason) × (f.place ≡ place + call_size * length (reads M z h.state cs)))
 
   pub break_off : (h : History ℕ) (cs : List Call) → BreakOff h cs
   break_off = by_calls M z BreakOff (λ h place closing f is. inl (is, refl)) if_accepted if_refused
     where
       if_accepted : (h : History ℕ) (c : Call) (cs : List Call) → refusal M z h.state c.unit c.act ≡ None → BreakOff (taken M z h c) cs → BreakOff h (c ∷ cs)
-      if_accepted h c cs ok ih = rw (ok, ok) (λ place closing f is. elim (ih (place + 3) closing f is) [
-        | inl (p, q) ↦ inl (p, ap (λ (l : List Call). c ∷ l) q)
-        | inr (e, d, after, p, r, s, t) ↦ inr (e, d, after, ap (λ (l : List Call). c ∷ l) p, r, s, omega arith)
+      if_accepted h c cs allowed ih = rw (allowed, allowed) (λ place closing f is. elim (ih (place + call_size) closing f is) [
+        | inl (closes, whole) ↦ inl (closes, ap (λ (l : List Call). c ∷ l) whole)
+        | inr (e, d, after, split, refused_so, reason, there) ↦ inr (e, d, after, ap (λ (l : List Call). c ∷ l) split, refused_so, reason, omega arith)
       ])
 
       if_refused : (h : History ℕ) (c : Call) (cs : List Call) (x : Refusal) → refusal M z h.state c.unit c.act ≡ Some x → BreakOff h cs → BreakOff h (c ∷ cs)
-      if_refused h c cs x not same = rw not (λ place closing f is.
-          let (p, q) = same_break (Refused x) place f is in
-          inr (x, c, cs, refl, not, p, omega arith))
+      if_refused h c cs x refused_so same = rw refused_so (λ place closing f is.
+          let (reason, there) = same_break (Refused x) place f is in
+          inr (x, c, cs, refl, refused_so, reason, omega arith))
 
 module _ (b : List ℕ) where
   abbrev bytes : List ℕ
@@ -88,31 +88,31 @@ module _ (b : List ℕ) where
     z = sized (judge_in b) n k most_marks
 
     abbrev t : Transcript
-    t = transcript_on (judge_in b) (some_in b) (all_in b) n k (new_state M) (recording_at b + 3) rest
+    t = transcript_on (judge_in b) (some_in b) (all_in b) n k (new_state M) (recording_at b + making_size) rest
 
     transcript_is_on_board : transcript_in b ≡ t
     transcript_is_on_board = by_board n k rest first None made
 
-    three : rest ≡ drop 3 bytes
-    three = let (none, x, same, whatever) = begins bytes _ first in sym (ap (drop 3) same)
+    three : rest ≡ drop making_size bytes
+    three = let (none, x, same, whatever) = begins bytes _ first in sym (ap (drop making_size) same)
 
     -- the byte after the calls that were read
-    after_calls : (place : ℕ) → place ≡ recording_at b + 3 + 3 * length t.calls → AfterCalls b place
-    after_calls place at = (n, k, rest, first, made, at ∙ ap (λ (w : Transcript). recording_at b + 3 + 3 * length w.calls) (sym transcript_is_on_board))
+    after_calls : (place : ℕ) → place ≡ recording_at b + making_size + call_size * length t.calls → AfterCalls b place
+    after_calls place at = (n, k, rest, first, made, at ∙ ap (λ (w : Transcript). recording_at b + making_size + call_size * length w.calls) (sym transcript_is_on_board))
 
     -- the byte after all calls, and the bytes from there on
     abbrev last : ℕ
-    last = recording_at b + 3 + 3 * length (calls_in rest)
+    last = recording_at b + making_size + call_size * length (calls_in rest)
 
     abbrev tail : List ℕ
-    tail = drop (3 * length (calls_in rest)) rest
+    tail = drop (call_size * length (calls_in rest)) rest
 
     -- the bytes after so many of the calls'
-    there : (i place : ℕ) → place ≡ recording_at b + 3 + i → drop place b ≡ drop i rest
+    there : (i place : ℕ) → place ≡ recording_at b + making_size + i → drop place b ≡ drop i rest
     there i place at = after_making (recording_at b) b rest three i place at
 
     -- What closes the calls of a board breaks off as it says, less than three bytes after them.
-    closes : AfterCalls b last → (left : ℕ) (r : Result (Command × List ℕ) Reason) → first_command tail ≡ r → end_after_calls left last r ≡ Err f → (i : ℕ) × (i < 3) × (f.place ≡ last + i) × Breaks b f.place f.reason
+    closes : AfterCalls b last → (left : ℕ) (r : Result (Command × List ℕ) Reason) → first_command tail ≡ r → end_after_calls left last r ≡ Err f → (i : ℕ) × (i < call_size) × (f.place ≡ last + i) × Breaks b f.place f.reason
     closes at left (Err reason) is ends =
         let same = same_break reason last f ends in
         (0, omega arith, omega arith, breaks_at_fault last reason f (breaks_of_form last reason (begins tail _ is).1 (inr at) (ap first_command (there _ last refl) ∙ is)) same)
@@ -129,28 +129,28 @@ module _ (b : List ℕ) where
         absurd (cc)
 
     -- The calls of a board are those before the break, if it is less than three bytes after them.
-    read_before : (i : ℕ) → i < 3 → f.place ≡ recording_at b + 3 + (3 * length t.calls + i) → (after : List Call) → calls_in rest ≡ t.calls ++ after
-        → t.calls ≡ calls_in (drop (recording_at b + 3) (take f.place b))
+    read_before : (i : ℕ) → i < call_size → f.place ≡ recording_at b + making_size + (call_size * length t.calls + i) → (after : List Call) → calls_in rest ≡ t.calls ++ after
+        → t.calls ≡ calls_in (drop (recording_at b + making_size) (take f.place b))
     read_before i small at after is =
-        sym (ap (λ (p : ℕ). calls_in (drop (recording_at b + 3) (take p b))) at
-        ∙ ap calls_in (drop-take (recording_at b + 3) (3 * length t.calls + i) b ∙ ap (take (3 * length t.calls + i)) (sym (three ∙ drop-drop 3 (recording_at b) b)))
+        sym (ap (λ (p : ℕ). calls_in (drop (recording_at b + making_size) (take p b))) at
+        ∙ ap calls_in (drop-take (recording_at b + making_size) (call_size * length t.calls + i) b ∙ ap (take (call_size * length t.calls + i)) (sym (three ∙ drop-drop making_size (recording_at b) b)))
         ∙ calls_before i small rest t.calls after is)
 
     -- Where a board's calls break off, they are those before the break, and what stands there is a reason.
-    on_board : t.end ≡ Err f → (t.calls ≡ calls_in (drop (recording_at b + 3) (take f.place b))) × Breaks b f.place f.reason
+    on_board : t.end ≡ Err f → (t.calls ≡ calls_in (drop (recording_at b + making_size) (take f.place b))) × Breaks b f.place f.reason
     on_board ends =
         let left = travelling (state_from M z (new_state M) (calls_in rest)).posts k in
-        elim (break_off M z (new_history M) (calls_in rest) (recording_at b + 3) (end_after_calls left last (first_command tail)) f ends) [
-          | inl (p, q) ↦
-              let same : length t.calls ≡ length (calls_in rest) = ap length q in
-              let (i, small, at, breaks) = closes (after_calls last (omega arith)) left (first_command tail) refl p in
-              (read_before i small (omega arith) [] (sym q ∙ sym (append-nil t.calls)), breaks)
-          | inr (e, c, after, p, r, s, at) ↦ (
-            read_before 0 (omega arith) (omega arith) (c ∷ after) p,
-            subst (λ (reason : Reason). Breaks b f.place reason) s (inr (
+        elim (break_off M z (new_history M) (calls_in rest) (recording_at b + making_size) (end_after_calls left last (first_command tail)) f ends) [
+          | inl (closes_so, whole) ↦
+              let same : length t.calls ≡ length (calls_in rest) = ap length whole in
+              let (i, small, at, breaks) = closes (after_calls last (omega arith)) left (first_command tail) refl closes_so in
+              (read_before i small (omega arith) [] (sym whole ∙ sym (append-nil t.calls)), breaks)
+          | inr (e, c, after, closes_so, refused_so, reason_is, at) ↦ (
+            read_before 0 (omega arith) (omega arith) (c ∷ after) closes_so,
+            subst (λ (reason : Reason). Breaks b f.place reason) reason_is (inr (
               after_calls f.place at,
               subst (λ (w : Transcript). RefusedCall b w f.place e) (sym transcript_is_on_board)
-                  (c, after, ap calls_in (there _ f.place at) ∙ calls_after rest t.calls (c ∷ after) p, r),
+                  (c, after, ap calls_in (there _ f.place at) ∙ calls_after rest t.calls (c ∷ after) closes_so, refused_so),
             )),
           )
         ]
@@ -158,15 +158,15 @@ module _ (b : List ℕ) where
   module _ (f : RecordingFault) (ends : (transcript_in b).end ≡ Err f) where
     -- the calls read are those before the break, and what stands there is a reason
     abbrev Broke : Type 0
-    Broke = ((transcript_in b).calls ≡ calls_in (drop (recording_at b + 3) (take f.place b))) × Breaks b f.place f.reason
+    Broke = ((transcript_in b).calls ≡ calls_in (drop (recording_at b + making_size) (take f.place b))) × Breaks b f.place f.reason
 
     -- what breaks off at once has no calls, and none before the break
     at_once : (reason : Reason) → transcript_in b ≡ empty_transcript (judge_in b) (some_in b) (all_in b) reason (recording_at b) → Breaks b (recording_at b) reason → Broke
     at_once reason is breaks =
         let same = same_break reason (recording_at b) f (sym (ap (λ (t : Transcript). t.end) is) ∙ ends) in
         let at : f.place ≡ recording_at b + 0 = omega arith in
-        let none : drop (recording_at b + 3) (take f.place b) ≡ [] =
-        ap (λ (p : ℕ). drop (recording_at b + 3) (take p b)) at ∙ sym (drop-drop 3 (recording_at b) (take (recording_at b + 0) b)) ∙ ap (drop 3) (drop-take (recording_at b) 0 b) in
+        let none : drop (recording_at b + making_size) (take f.place b) ≡ [] =
+        ap (λ (p : ℕ). drop (recording_at b + making_size) (take p b)) at ∙ sym (drop-drop making_size (recording_at b) (take (recording_at b + 0) b)) ∙ ap (drop making_size) (drop-take (recording_at b) 0 b) in
         (ap (λ (t : Transcript). t.calls) is ∙ ap calls_in (sym none), breaks_at_fault (recording_at b) reason f breaks same)
 
     by_making : (n k : ℕ) (rest : List ℕ) → first_command bytes ≡ Ok (commands.Make n k, rest) → (o : Option Refusal) → make_refusal n k true ≡ o → Broke
@@ -185,7 +185,7 @@ module _ (b : List ℕ) where
         at_once NoBoard (ap (transcript_from (judge_in b) (some_in b) (all_in b) (recording_at b)) is) (refl, commands.End, rest, is, λ n k h. (cc))
 
     -- The calls read are all that stand before the break.
-    pub read_to : (transcript_in b).calls ≡ calls_in (drop (recording_at b + 3) (take f.place b))
+    pub read_to : (transcript_in b).calls ≡ calls_in (drop (recording_at b + making_size) (take f.place b))
     read_to = (by_first (first_command bytes) refl).0
 
     -- And what stands there is a reason to break off.

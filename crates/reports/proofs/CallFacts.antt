@@ -15,13 +15,13 @@ use Rattle.measures.specs.Worths.{carrying, sized}
 use Rattle.reports.specs.declared.faults.Reason.TheVariants.{Refused}
 use Rattle.reports.specs.declared.faults.RecordingFault.{RecordingFault}
 use Rattle.reports.specs.declared.lines.MarkLine.{MarkLine}
-use Rattle.reports.specs.Commands.{making_size, first_command, event_in, calls_with_first, calls_in}
+use Rattle.reports.specs.Commands.{call_size, making_size, first_command, event_in, calls_with_first, calls_in}
 use Rattle.reports.specs.Faults.{fault_at}
 use Rattle.reports.specs.Recordings.{Transcript, end_after_calls, ending, calls_before_refusal, line, lines, transcript_on}
 
 -- What comes after a call and n more is what comes after these n.
-drop-call : (n b u x : ℕ) (rest : List ℕ) → drop (3 * suc n) (b ∷ (u ∷ (x ∷ rest))) ≡ drop (3 * n) rest
-drop-call n b u x rest = let three : 3 * suc n ≡ suc (suc (suc (3 * n))) = omega arith in ap (λ (i : ℕ). drop i (b ∷ (u ∷ (x ∷ rest)))) three
+drop-call : (n b u x : ℕ) (rest : List ℕ) → drop (call_size * suc n) (b ∷ (u ∷ (x ∷ rest))) ≡ drop (call_size * n) rest
+drop-call n b u x rest = let three : call_size * suc n ≡ suc (suc (suc (call_size * n))) = omega arith in ap (λ (i : ℕ). drop i (b ∷ (u ∷ (x ∷ rest)))) three
 
 -- The calls after the first are those in the bytes after it.
 first_call_rest : (u : ℕ) (o : Option Event) (cs : List Call) (c : Call) (ds : List Call) → calls_with_first u o cs ≡ c ∷ ds → cs ≡ ds
@@ -29,7 +29,7 @@ first_call_rest u None cs c ds same = absurd (cc)
 first_call_rest u (Some e) cs c ds same = cc
 
 -- After the first of the calls, three bytes further on for each, stand the others.
-pub calls_after : (bytes : List ℕ) (before after : List Call) → calls_in bytes ≡ before ++ after → calls_in (drop (3 * length before) bytes) ≡ after
+pub calls_after : (bytes : List ℕ) (before after : List Call) → calls_in bytes ≡ before ++ after → calls_in (drop (call_size * length before) bytes) ≡ after
 calls_after bytes [] after split = split
 calls_after [] (c ∷ before) after split = absurd (cc)
 calls_after (b ∷ []) (c ∷ before) after split = absurd (cc)
@@ -43,7 +43,7 @@ after_making from b rest is i place at =
     sym (ap (drop i) is ∙ drop-drop i making_size (drop from b) ∙ drop-drop (making_size + i) from b ∙ ap (λ (j : ℕ). drop j b) (omega arith))
 
 -- Fewer than three bytes have no call.
-few_bytes : (i : ℕ) → i < 3 → (bytes : List ℕ) → calls_in (take i bytes) ≡ []
+few_bytes : (i : ℕ) → i < call_size → (bytes : List ℕ) → calls_in (take i bytes) ≡ []
 few_bytes zero small bytes = refl
 few_bytes (suc i) small [] = refl
 few_bytes (suc zero) small (b ∷ rest) = refl
@@ -52,18 +52,18 @@ few_bytes (suc (suc zero)) small (b ∷ (u ∷ rest)) = refl
 few_bytes (suc (suc (suc i))) small (b ∷ (u ∷ rest)) = absurd (omega arith)
 
 -- Up to the first of the calls, three bytes for each, and fewer than three bytes more, stand just these.
-pub calls_before : (i : ℕ) → i < 3 → (bytes : List ℕ) (before after : List Call) → calls_in bytes ≡ before ++ after → calls_in (take (3 * length before + i) bytes) ≡ before
+pub calls_before : (i : ℕ) → i < call_size → (bytes : List ℕ) (before after : List Call) → calls_in bytes ≡ before ++ after → calls_in (take (call_size * length before + i) bytes) ≡ before
 calls_before i small bytes [] after split = ap (λ (n : ℕ). calls_in (take n bytes)) (omega arith) ∙ few_bytes i small bytes
 calls_before i small [] (c ∷ before) after split = absurd (cc)
 calls_before i small (b ∷ []) (c ∷ before) after split = absurd (cc)
 calls_before i small (b ∷ (u ∷ [])) (c ∷ before) after split = absurd (cc)
 calls_before i small (b ∷ (u ∷ (x ∷ rest))) (c ∷ before) after split =
-    let three : 3 * suc (length before) + i ≡ suc (suc (suc (3 * length before + i))) = omega arith in
+    let three : call_size * suc (length before) + i ≡ suc (suc (suc (call_size * length before + i))) = omega arith in
     ap (λ (n : ℕ). calls_in (take n (b ∷ (u ∷ (x ∷ rest))))) three
     ∙ one (event_in b x) split (calls_before i small rest before after (first_call_rest u (event_in b x) (calls_in rest) c (before ++ after) split))
   where
-    one : (o : Option Event) → calls_with_first u o (calls_in rest) ≡ c ∷ (before ++ after) → calls_in (take (3 * length before + i) rest) ≡ before
-        → calls_with_first u o (calls_in (take (3 * length before + i) rest)) ≡ c ∷ before
+    one : (o : Option Event) → calls_with_first u o (calls_in rest) ≡ c ∷ (before ++ after) → calls_in (take (call_size * length before + i) rest) ≡ before
+        → calls_with_first u o (calls_in (take (call_size * length before + i) rest)) ≡ c ∷ before
     one None same earlier = absurd (cc)
     one (Some x) same earlier = cc
 
@@ -89,7 +89,7 @@ module _ (m : Meaning ℕ) (some all : ℕ → Bool) (n k : ℕ) (s : State ℕ)
     messages = k;
     calls = calls_before_refusal cs xs;
     lines = lines m some all cs xs;
-    end = ending place xs (end_after_calls (travelling t.posts k) (place + 3 * length cs) (first_command (drop (3 * length cs) bytes)));
+    end = ending place xs (end_after_calls (travelling t.posts k) (place + call_size * length cs) (first_command (drop (call_size * length cs) bytes)));
   }
 
   -- the transcript if the bytes begin with these calls
@@ -111,9 +111,9 @@ module _ (m : Meaning ℕ) (some all : ℕ → Bool) (n k : ℕ) (s : State ℕ)
 
     -- After one that is accepted the recording goes on.
     pub transcript_on-accepted : (b u x : ℕ) → bytes ≡ b ∷ (u ∷ (x ∷ rest)) → (a : Answer ℕ) → outcome M z s c ≡ Ok a
-        → transcript_on m some all n k s place bytes ≡ transcript_with (c ∷ []) (line m some all c.unit a) (transcript_on m some all n k (next M z s c) (place + 3) rest)
+        → transcript_on m some all n k s place bytes ≡ transcript_with (c ∷ []) (line m some all c.unit a) (transcript_on m some all n k (next M z s c) (place + call_size) rest)
     transcript_on-accepted b u x is a accepted =
         let more = length (calls_in rest) in
-        let further : place + 3 * suc more ≡ place + 3 + 3 * more = omega arith in
-        let after : drop (3 * suc more) bytes ≡ drop (3 * more) rest = ap (drop (3 * suc more)) is ∙ drop-call more b u x rest in
+        let further : place + call_size * suc more ≡ place + call_size + call_size * more = omega arith in
+        let after : drop (call_size * suc more) bytes ≡ drop (call_size * more) rest = ap (drop (call_size * suc more)) is ∙ drop-call more b u x rest in
         ap transcript_of_calls first ∙ ap transcript_by accepted ∙ rw (further, after) refl

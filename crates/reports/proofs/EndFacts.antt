@@ -23,7 +23,7 @@ use Rattle.reports.specs.declared.commands.Command.{Command}
 use Rattle.reports.specs.declared.commands.Command.TheVariants as commands
 use Rattle.reports.specs.declared.faults.Reason.{Reason}
 use Rattle.reports.specs.declared.faults.RecordingFault.{RecordingFault}
-use Rattle.reports.specs.Commands.{first_command, calls_in}
+use Rattle.reports.specs.Commands.{making_size, call_size, first_command, calls_in}
 use Rattle.reports.specs.Recordings.{Transcript, end_after_calls, ending, calls_before_refusal, transcript_on, transcript}
 use Rattle.reports.specs.Reports.{recording_at, judge_in, some_in, all_in, transcript_in}
 use Rattle.reports.specs.Laws.{AfterCalls}
@@ -91,14 +91,14 @@ module _ {V : Type 0} (M : Payload V) (z : Size) where
   -- Calls after which a recording ends well are read whole, and it ends as what closes it.
   ending_ok : (cs : List Call) (s : State V) (place left : ℕ) (closing : Result ℕ RecordingFault) → ending place (outcomes_from M z s cs) closing ≡ Ok left
       → (closing ≡ Ok left) × (reads M z s cs ≡ cs)
-  ending_ok [] s place left closing e = (e, refl)
-  ending_ok (c ∷ cs) s place left closing e = one (outcome M z s c) (outcomes_from M z (next M z s c) cs) (ending_ok cs (next M z s c) (place + 3) left closing) e
+  ending_ok [] s place left closing ends = (ends, refl)
+  ending_ok (c ∷ cs) s place left closing ends = one (outcome M z s c) (outcomes_from M z (next M z s c) cs) (ending_ok cs (next M z s c) (place + call_size) left closing) ends
     where
       one : (r : Result (Answer V) Refusal) (xs : List (Result (Answer V) Refusal))
-          → (ending (place + 3) xs closing ≡ Ok left → (closing ≡ Ok left) × (calls_before_refusal cs xs ≡ cs)) → ending place (r ∷ xs) closing ≡ Ok left
+          → (ending (place + call_size) xs closing ≡ Ok left → (closing ≡ Ok left) × (calls_before_refusal cs xs ≡ cs)) → ending place (r ∷ xs) closing ≡ Ok left
           → (closing ≡ Ok left) × (calls_before_refusal (c ∷ cs) (r ∷ xs) ≡ c ∷ cs)
-      one (Ok a) xs ih e = let (p, q) = ih e in (p, ap (λ (l : List Call). c ∷ l) q)
-      one (Err x) xs ih e = cc
+      one (Ok a) xs later ends = let (closes, whole) = later ends in (closes, ap (λ (l : List Call). c ∷ l) whole)
+      one (Err x) xs later ends = cc
 
 -- What ends a recording well is an end with nothing after it, and leaves what is left.
 end_after_calls-ok : (left place : ℕ) (r : Result (Command × List ℕ) Reason) (x : ℕ) → end_after_calls left place r ≡ Ok x
@@ -113,27 +113,27 @@ module _ (m : Meaning ℕ) (some all : ℕ → Bool) where
   -- Where a recording on a board ends well, it leaves the messages on their way after the calls read.
   left_on : (n k place : ℕ) (bytes : List ℕ) (x : ℕ) → (transcript_on m some all n k (new_state (carrying m n)) place bytes).end ≡ Ok x
       → x ≡ travelling (run (carrying m n) (sized m n k most_marks) (transcript_on m some all n k (new_state (carrying m n)) place bytes).calls).state.posts k
-  left_on n k place bytes x e =
+  left_on n k place bytes x ends =
       let M = carrying m n in
       let z = sized m n k most_marks in
       let cs = calls_in bytes in
-      let after = first_command (drop (3 * length cs) bytes) in
-      let (good, all_read_so) = ending_ok M z cs (new_state M) place x (end_after_calls (travelling (state_from M z (new_state M) cs).posts k) (place + 3 * length cs) after) e in
-      sym (end_after_calls-ok _ _ _ x good).1
+      let after = first_command (drop (call_size * length cs) bytes) in
+      let (closes, whole) = ending_ok M z cs (new_state M) place x (end_after_calls (travelling (state_from M z (new_state M) cs).posts k) (place + call_size * length cs) after) ends in
+      sym (end_after_calls-ok _ _ _ x closes).1
       ∙ ap (λ (s : State ℕ). travelling s.posts k) (last_run M z cs)
-      ∙ ap (λ (l : List Call). travelling (run M z l).state.posts k) (sym all_read_so)
+      ∙ ap (λ (l : List Call). travelling (run M z l).state.posts k) (sym whole)
 
   -- Where any recording ends well, all of its calls are read.
-  transcript_whole : (place : ℕ) (bytes : List ℕ) (left : ℕ) → (transcript m some all place bytes).end ≡ Ok left → (transcript m some all place bytes).calls ≡ calls_in (drop 3 bytes)
+  transcript_whole : (place : ℕ) (bytes : List ℕ) (left : ℕ) → (transcript m some all place bytes).end ≡ Ok left → (transcript m some all place bytes).calls ≡ calls_in (drop making_size bytes)
   transcript_whole place bytes = elim (transcript_cases m some all place bytes) [
-    | inl (reason, e) ↦ subst Whole (sym e) (λ left p. cc)
-    | inr (n, k, rest, c, r, e) ↦ subst Whole (sym e) (λ left p.
-        let (none, x, same, whatever) = begins bytes _ c in
-        (ending_ok (carrying m n) (sized m n k most_marks) (calls_in rest) (new_state (carrying m n)) (place + 3) left _ p).1 ∙ ap (λ (ys : List ℕ). calls_in (drop 3 ys)) (sym same))
+    | inl (reason, is) ↦ subst Whole (sym is) (λ left ends. cc)
+    | inr (n, k, rest, first, made, is) ↦ subst Whole (sym is) (λ left ends.
+        let (none, x, same, whatever) = begins bytes _ first in
+        (ending_ok (carrying m n) (sized m n k most_marks) (calls_in rest) (new_state (carrying m n)) (place + making_size) left _ ends).1 ∙ ap (λ (ys : List ℕ). calls_in (drop making_size ys)) (sym same))
   ]
     where
       Whole : Transcript → Type 0
-      Whole t = (left : ℕ) → t.end ≡ Ok left → t.calls ≡ calls_in (drop 3 bytes)
+      Whole t = (left : ℕ) → t.end ≡ Ok left → t.calls ≡ calls_in (drop making_size bytes)
 
   -- the messages that were sent and not received are counted, if a recording ends well
   abbrev Leaves : Transcript → Type 0
@@ -142,8 +142,8 @@ module _ (m : Meaning ℕ) (some all : ℕ → Bool) where
   -- Where any recording ends well, the messages that were sent and not received are counted.
   transcript_leaves : (place : ℕ) (bytes : List ℕ) → Leaves (transcript m some all place bytes)
   transcript_leaves place bytes = elim (transcript_cases m some all place bytes) [
-    | inl (reason, e) ↦ subst Leaves (sym e) (λ left p. cc)
-    | inr (n, k, rest, c, r, e) ↦ subst Leaves (sym e) (λ left p. subst (HowMany _) (sym (left_on n k (place + 3) rest left p))
+    | inl (reason, is) ↦ subst Leaves (sym is) (λ left ends. cc)
+    | inr (n, k, rest, first, made, is) ↦ subst Leaves (sym is) (λ left ends. subst (HowMany _) (sym (left_on n k (place + making_size) rest left ends))
         (run_counted (carrying m n) (sized m n k most_marks) _ (reads_ok (carrying m n) (sized m n k most_marks) (new_history (carrying m n)) (calls_in rest))))
   ]
 
@@ -153,20 +153,20 @@ pub left_counted : (b : List ℕ) (left : ℕ) → (transcript_in b).end ≡ Ok 
 left_counted b = transcript_leaves (judge_in b) (some_in b) (all_in b) (recording_at b) (drop (recording_at b) b)
 
 -- Where a recording ends well, all calls after its making are read.
-pub all_read : (b : List ℕ) (left : ℕ) → (transcript_in b).end ≡ Ok left → (transcript_in b).calls ≡ calls_in (drop 3 (drop (recording_at b) b))
+pub all_read : (b : List ℕ) (left : ℕ) → (transcript_in b).end ≡ Ok left → (transcript_in b).calls ≡ calls_in (drop making_size (drop (recording_at b) b))
 all_read b = transcript_whole (judge_in b) (some_in b) (all_in b) (recording_at b) (drop (recording_at b) b)
 
 -- And after them stands an end, and nothing more.
 pub ended : (b : List ℕ) (left : ℕ) → (transcript_in b).end ≡ Ok left → (p : ℕ) × AfterCalls b p × (first_command (drop p b) ≡ Ok (commands.End, []))
 ended b left ends = elim (transcript_cases (judge_in b) (some_in b) (all_in b) (recording_at b) (drop (recording_at b) b)) [
-  | inl (reason, t) ↦ let end = ap (λ (t : Transcript). t.end) t in absurd (cc)
-  | inr (n, k, rest, first, made, t) ↦
+  | inl (reason, is) ↦ let end = ap (λ (is : Transcript). is.end) is in absurd (cc)
+  | inr (n, k, rest, first, made, is) ↦
       let (none, x, same, whatever) = begins (drop (recording_at b) b) _ first in
       let cs = calls_in rest in
-      let (p, q) = ending_ok (carrying (judge_in b) n) (sized (judge_in b) n k most_marks) cs (new_state (carrying (judge_in b) n)) (recording_at b + 3) left _ (sym (ap (λ (t : Transcript). t.end) t) ∙ ends) in
-      let there = after_making (recording_at b) b rest (sym (ap (drop 3) same)) (3 * length cs) (recording_at b + 3 + 3 * length cs) refl in (
-        recording_at b + 3 + 3 * length cs,
-        (n, k, rest, first, made, ap (λ (l : List Call). recording_at b + 3 + 3 * length l) (sym (ap (λ (t : Transcript). t.calls) t ∙ q))),
-        ap first_command there ∙ (end_after_calls-ok _ _ _ left p).0,
+      let (closes, whole) = ending_ok (carrying (judge_in b) n) (sized (judge_in b) n k most_marks) cs (new_state (carrying (judge_in b) n)) (recording_at b + making_size) left _ (sym (ap (λ (is : Transcript). is.end) is) ∙ ends) in
+      let there = after_making (recording_at b) b rest (sym (ap (drop making_size) same)) (call_size * length cs) (recording_at b + making_size + call_size * length cs) refl in (
+        recording_at b + making_size + call_size * length cs,
+        (n, k, rest, first, made, ap (λ (l : List Call). recording_at b + making_size + call_size * length l) (sym (ap (λ (is : Transcript). is.calls) is ∙ whole))),
+        ap first_command there ∙ (end_after_calls-ok _ _ _ left closes).0,
       )
 ]

@@ -13,7 +13,7 @@ use Rattle.measures.specs.Worths.{carrying}
 use Rattle.reports.specs.declared.commands.Command.TheVariants as commands
 use Rattle.reports.specs.declared.faults.RecordingFault.{RecordingFault}
 use Rattle.reports.specs.declared.faults.Reason.TheVariants.{Refused}
-use Rattle.reports.specs.Commands.{first_command}
+use Rattle.reports.specs.Commands.{making_size, first_command}
 use Rattle.reports.specs.Faults.{fault_at}
 use Rattle.reports.specs.Lines.{mark_lines}
 use Rattle.reports.specs.Recordings.{Transcript, transcript_of_board, transcript_on, transcript_from, transcript}
@@ -60,7 +60,7 @@ module _ (m : Meaning ℕ) (some all : ℕ → Bool) (place : ℕ) (bytes rest :
       (sym (append-nil old) ∙ ap (λ (t : Transcript). old ++ mark_lines t.lines) (sym nothing), so ∙ ap (λ (t : Transcript). t.end) (sym nothing))
 
   -- A board that is made is handed the rest.
-  pub board_made : make_refusal n k true ≡ None → (old new : List ℕ) (result : Result ℕ RecordingFault) → Wrote old new (transcript_on m some all n k (new_state (carrying m n)) (place + 3) rest) result
+  pub board_made : make_refusal n k true ≡ None → (old new : List ℕ) (result : Result ℕ RecordingFault) → Wrote old new (transcript_on m some all n k (new_state (carrying m n)) (place + making_size) rest) result
       → Wrote old new (transcript m some all place bytes) result
   board_made is old new result tells = subst (λ (t : Transcript). Wrote old new t result) (sym (transcript-making None is)) tells
 

@@ -13,7 +13,7 @@ use Rattle.measures.specs.Measures.{Meaning}
 use Rattle.measures.specs.Worths.{carrying, sized}
 use Rattle.reports.specs.declared.faults.Reason.{Reason}
 use Rattle.reports.specs.declared.lines.MarkLine.{MarkLine}
-use Rattle.reports.specs.Commands.{calls_in}
+use Rattle.reports.specs.Commands.{making_size, calls_in}
 use Rattle.reports.specs.Laws.{Tells, marks_among, size_in}
 use Rattle.reports.specs.Recordings.{Transcript, line, empty_transcript, transcript_on, transcript}
 use Rattle.reports.specs.Reports.{front_fault, judge_in, some_in, all_in, recording_at, transcript_in}
@@ -27,7 +27,7 @@ pub transcript_by_cases : (m : Meaning ℕ) (some all : ℕ → Bool) (P : Trans
     → ((n k place : ℕ) (bytes : List ℕ) → P (transcript_on m some all n k (new_state (carrying m n)) place bytes)) → (place : ℕ) (bytes : List ℕ) → P (transcript m some all place bytes)
 transcript_by_cases m some all P none board place bytes = elim (transcript_cases m some all place bytes) [
   | inl (reason, e) ↦ subst P (sym e) (none reason place)
-  | inr (n, k, rest, _, _, e) ↦ subst P (sym e) (board n k (place + 3) rest)
+  | inr (n, k, rest, _, _, e) ↦ subst P (sym e) (board n k (place + making_size) rest)
 ]
 
 module _ (b : List ℕ) (sound : front_fault b ≡ None) (n k : ℕ) where

@@ -17,7 +17,7 @@ use Rattle.reports.specs.declared.commands.Command.TheVariants as commands
 use Rattle.reports.specs.declared.faults.Reason.{Reason}
 use Rattle.reports.specs.declared.faults.Reason.TheVariants.{NoBoard, SecondBoard, BytesAfterEnd, Refused}
 use Rattle.reports.specs.declared.faults.RecordingFault.{RecordingFault}
-use Rattle.reports.specs.Commands.{first_command, calls_in}
+use Rattle.reports.specs.Commands.{making_size, call_size, first_command, calls_in}
 use Rattle.reports.specs.Faults.{fault_at}
 use Rattle.reports.specs.Recordings.{Transcript, end_after_calls, ending, transcript_from, empty_transcript, transcript_on}
 use Rattle.reports.specs.Reports.{judge_in, some_in, all_in, recording_at, transcript_in}
@@ -55,7 +55,7 @@ module _ (M : Payload ℕ) (z : Size) (bytes : List ℕ) where
       elim (break_off M z (new_history M) (calls_in bytes) place closing (fault_at (Refused e) at) is) [
         | inl (closes, all_read) ↦ absurd (other closes)
         | inr (x, d, after, split, refused_so, reason, there) ↦
-            let same : d ≡ c = let stands = calls_after bytes seen (d ∷ after) split in let stands_too = here (3 * length seen) there in cc in
+            let same : d ≡ c = let stands = calls_after bytes seen (d ∷ after) split in let stands_too = here (call_size * length seen) there in cc in
             refused_impossible c x (subst (λ (a : Call). refusal M z (run M z seen).state a.unit a.act ≡ Some x) same refused_so) could
       ]
 
@@ -79,20 +79,20 @@ module _ (b : List ℕ) where
       cc
 
   -- And so it is on a board.
-  on_board : (n k : ℕ) (rest : List ℕ) → rest ≡ drop 3 bytes → RefusedIn (transcript_on (judge_in b) (some_in b) (all_in b) n k (new_state (carrying (judge_in b) n)) (recording_at b + 3) rest)
+  on_board : (n k : ℕ) (rest : List ℕ) → rest ≡ drop making_size bytes → RefusedIn (transcript_on (judge_in b) (some_in b) (all_in b) n k (new_state (carrying (judge_in b) n)) (recording_at b + making_size) rest)
   on_board n k rest three e place is c cs here could =
       let M = carrying (judge_in b) n in
       let z = sized (judge_in b) n k most_marks in
       let all = calls_in rest in
-      let tail = drop (3 * length all) rest in
+      let tail = drop (call_size * length all) rest in
       let left = travelling (state_from M z (new_state M) all).posts k in
-      let end = recording_at b + 3 + 3 * length all in
-      broken_impossible M z rest (recording_at b + 3) (end_after_calls left end (first_command tail)) e place (end_after_calls-refuses_nothing left end (first_command tail) e place (λ here. (begins tail (Err (Refused e)) here).1)) is c cs
+      let end = recording_at b + making_size + call_size * length all in
+      broken_impossible M z rest (recording_at b + making_size) (end_after_calls left end (first_command tail)) e place (end_after_calls-refuses_nothing left end (first_command tail) e place (λ here. (begins tail (Err (Refused e)) here).1)) is c cs
       (λ i at. ap calls_in (sym (after_making (recording_at b) b rest three i place at)) ∙ here) could
 
   -- A call that is refused, where a recording breaks off, is none that could come next.
   pub refused : RefusedIn (transcript_in b)
   refused = elim (transcript_cases (judge_in b) (some_in b) (all_in b) (recording_at b) bytes) [
     | inl (reason, t) ↦ subst RefusedIn (sym t) (on_nothing reason t)
-    | inr (n, k, rest, f, _, t) ↦ subst RefusedIn (sym t) (on_board n k rest (let (none, x, same, whatever) = begins bytes _ f in sym (ap (drop 3) same)))
+    | inr (n, k, rest, f, _, t) ↦ subst RefusedIn (sym t) (on_board n k rest (let (none, x, same, whatever) = begins bytes _ f in sym (ap (drop making_size) same)))
   ]

@@ -17,7 +17,7 @@ use Rattle.reports.specs.declared.faults.Reason.{Reason}
 use Rattle.reports.specs.declared.faults.Reason.TheVariants.{SecondBoard, Refused}
 use Rattle.reports.specs.declared.faults.RecordingFault.{RecordingFault}
 use Rattle.reports.specs.declared.lines.MarkLine.{MarkLine}
-use Rattle.reports.specs.Commands.{first_command, calls_in}
+use Rattle.reports.specs.Commands.{call_size, first_command, calls_in}
 use Rattle.reports.specs.Faults.{fault_at}
 use Rattle.reports.specs.Lines.{mark_text, mark_lines}
 use Rattle.text.specs.Lines.{line_of}
@@ -108,13 +108,13 @@ module _ {m : Meaning ℕ} {some all : ℕ → Bool} {n k : ℕ} {s : State ℕ}
         ∙ ap (λ (q : Reason). end_transcript n k (Err (fault_at q place))) why))
 
     -- One that is accepted is followed by the rest, once its line is written.
-    pub accepts : (l : Option MarkLine) → t ≡ Ok l → (wrote : List ℕ) → wrote ≡ out ++ mark_lines (option_lines l) → Reached m some all n k s from bytes old new wrote (place + 3) more
+    pub accepts : (l : Option MarkLine) → t ≡ Ok l → (wrote : List ℕ) → wrote ≡ out ++ mark_lines (option_lines l) → Reached m some all n k s from bytes old new wrote (place + call_size) more
     accepts l accepted_so wrote is =
         let (a, same, own) = answer_line-ok m some all c.unit x l (sym accepted_so ∙ said) in
         let (b, v, bytes, calls) = begins rest (Ok (commands.Call c, more)) first in
         let after = next (carrying m n) (sized m n k most_marks) reached.state (handed c) in
         let here = line m some all c.unit a in
-        let later = (on after (place + 3) more).lines in
+        let later = (on after (place + call_size) more).lines in
         let goes_on = transcript_on-accepted m some all n k reached.state place rest (handed c) more calls b c.unit v bytes a (sym (o.answer reached.state reached.shows) ∙ same) in
         record {
           state = after;

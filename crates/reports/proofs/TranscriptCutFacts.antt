@@ -15,7 +15,7 @@ use Rattle.reports.specs.declared.commands.Command.TheVariants as commands
 use Rattle.reports.specs.declared.faults.Reason.{Reason}
 use Rattle.reports.specs.declared.faults.Reason.TheVariants.{SecondBoard, BytesAfterEnd, Refused}
 use Rattle.reports.specs.declared.faults.RecordingFault.{RecordingFault}
-use Rattle.reports.specs.Commands.{first_command, event_in, calls_with_first, calls_in}
+use Rattle.reports.specs.Commands.{making_size, call_size, first_command, event_in, calls_with_first, calls_in}
 use Rattle.reports.specs.Faults.{fault_at}
 use Rattle.reports.specs.Recordings.{Transcript, end_after_calls, line, transcript_on, transcript_of_board, transcript_from, transcript}
 use Rattle.reports.proofs.CallFacts.{end_transcript, transcript_with, transcript_on-no_call, transcript_on-refused, transcript_on-accepted}
@@ -75,10 +75,10 @@ module _ (m : Meaning ℕ) (some all : ℕ → Bool) where
             → Cut (on s place) place (b ∷ u ∷ x ∷ rest) f
         by_answer e is (Ok a) answered later =
             let t = next (carrying m n) (sized m n k most_marks) s (call u e) in
-            let transcript_is : (ys : List ℕ) → on s place (b ∷ u ∷ x ∷ ys) ≡ transcript_with (call u e ∷ []) (line m some all u a) (on t (place + 3) ys) =
+            let transcript_is : (ys : List ℕ) → on s place (b ∷ u ∷ x ∷ ys) ≡ transcript_with (call u e ∷ []) (line m some all u a) (on t (place + call_size) ys) =
             λ ys. transcript_on-accepted m some all n k s place (b ∷ u ∷ x ∷ ys) (call u e) ys (ap (λ (o : Option Event). calls_with_first u o (calls_in ys)) is) b u x refl a answered in
-            later_cut (on s place) (on t (place + 3)) place b u x (call u e ∷ []) (line m some all u a) transcript_is rest f
-            (later t (place + 3) (sym (ap (λ (t : Transcript). t.end) (transcript_is rest)) ∙ ends))
+            later_cut (on s place) (on t (place + call_size)) place b u x (call u e ∷ []) (line m some all u a) transcript_is rest f
+            (later t (place + call_size) (sym (ap (λ (t : Transcript). t.end) (transcript_is rest)) ∙ ends))
         by_answer e is (Err r) answered later =
             at_once s place f (b ∷ u ∷ x ∷ rest) (Refused r)
             (transcript_on-refused m some all n k s place (b ∷ u ∷ x ∷ rest) (call u e) rest (ap (λ (o : Option Event). calls_with_first u o (calls_in rest)) is) r answered) ends
@@ -96,9 +96,9 @@ module _ (m : Meaning ℕ) (some all : ℕ → Bool) where
         (ap (λ (t : Transcript). t.calls) is, ap (λ (t : Transcript). t.lines) is) (refl, refl) (λ other agree. refl)
     | inr (n, k, rest, first, good, is) ↦
         let (none, b, same, whatever) = begins bytes _ first in
-        let further = transcript_on m some all n k (new_state (carrying m n)) (place + 3) in
+        let further = transcript_on m some all n k (new_state (carrying m n)) (place + making_size) in
         let transcript_is : (zs : List ℕ) → transcript m some all place (b ∷ n ∷ k ∷ zs) ≡ further zs =
         λ zs. ap (transcript_from m some all place) (whatever zs) ∙ ap (transcript_of_board m some all n k place zs) good in
         subst (λ (l : List ℕ). Cut (transcript m some all place) place l f) (sym same)
-        (later_cut (transcript m some all place) further place b n k [] [] transcript_is rest f (transcript_on_cut n k (new_state (carrying m n)) (place + 3) rest f (sym (ap (λ (t : Transcript). t.end) is) ∙ ends)))
+        (later_cut (transcript m some all place) further place b n k [] [] transcript_is rest f (transcript_on_cut n k (new_state (carrying m n)) (place + making_size) rest f (sym (ap (λ (t : Transcript). t.end) is) ∙ ends)))
   ]

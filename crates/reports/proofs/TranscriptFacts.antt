@@ -13,7 +13,7 @@ use Rattle.reports.specs.declared.commands.Command.TheVariants as commands
 use Rattle.reports.specs.declared.faults.Reason.{Reason}
 use Rattle.reports.specs.declared.faults.Reason.TheVariants.{NoBoard, Refused}
 use Rattle.reports.specs.declared.lines.MarkLine.{MarkLine}
-use Rattle.reports.specs.Commands.{first_command}
+use Rattle.reports.specs.Commands.{making_size, first_command}
 use Rattle.reports.specs.Recordings.{calls_before_refusal, line, lines, empty_transcript, transcript_of_board, transcript_on, transcript_from, transcript}
 
 module _ {V : Type 0} (M : Payload V) (z : Size) where
@@ -63,7 +63,7 @@ module _ (m : Meaning ℕ) (some all : ℕ → Bool) where
   TranscriptCases place bytes =
       ((reason : Reason) × (transcript m some all place bytes ≡ empty_transcript m some all reason place))
       ⊎ ((n k : ℕ) × (rest : List ℕ) × (first_command bytes ≡ Ok (commands.Make n k, rest)) × (make_refusal n k true ≡ None)
-      × (transcript m some all place bytes ≡ transcript_on m some all n k (new_state (carrying m n)) (place + 3) rest))
+      × (transcript m some all place bytes ≡ transcript_on m some all n k (new_state (carrying m n)) (place + making_size) rest))
 
   -- Each recording does the one or the other.
   pub transcript_cases : (place : ℕ) (bytes : List ℕ) → TranscriptCases place bytes

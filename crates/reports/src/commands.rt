@@ -1,7 +1,7 @@
 // The commands of a recording.
 ghost use Rattle.std.specs.Prelude.{◌≡◌, Ok, Err, MatchResult};
 ghost use Rattle.reports.specs.Commands.{first_command as first_in};
-ghost use Rattle.reports.specs.declared.commands.Command.TheVariants.{Call as called};
+ghost use Rattle.reports.specs.declared.commands.Command.TheVariants.{Call as call_command};
 
 use super::faults::Reason;
 use causality::{Call, Event};
@@ -30,7 +30,7 @@ pub(crate) enum Command {
 
 // The command that hands a unit's event to the board.
 fn call(unit: u8, event: Event) -> Command
-    ensures { result ≡ called (record { unit = unit; event = event }) }
+    ensures { result ≡ call_command (record { unit = unit; event = event }) }
 {
     Command::Call(Call {
         unit: unit as usize,

@@ -1,6 +1,7 @@
 use Rattle.std.proofs.Common.{rules, ◌≡◌, ℕ, ◌+◌, ◌-◌, suc, ◌++◌, List, length, Option, Err, Ok, Some, None, sym, refl, arith, ◌∙◌, ap, append-nil}
 use Rattle.causality.specs.Calls.{lent}
 use Rattle.measures.proofs.Playing.{room_kept}
+use Rattle.reports.specs.Commands.{call_size}
 use Rattle.reports.specs.declared.faults.RecordingFault.{RecordingFault}
 use Rattle.reports.specs.declared.lines.MarkLine.{MarkLine}
 use Rattle.reports.specs.Lines.{mark_text}
@@ -56,7 +57,7 @@ loop-command-preserved-in-Some g c =
     let accepted = result_with_place-ok place h.result c.with_place-in-Call.ensures c.in_ok-line-in-Call.was in
     let size = length-call l.rest.now _ _ first in
     let i = l.invariant in
-    let next : a.from + (length a.bytes.now - length c.in_ok-command.after.now) ≡ place + 3 = omega (arith, size, i.places) in
+    let next : a.from + (length a.bytes.now - length c.in_ok-command.after.now) ≡ place + call_size = omega (arith, size, i.places) in
     let w = c.push_mark.ensures in
     record {
       room = room_kept (g.J.Measure.meaning a.board.now.payload.measure).start a.board.now.units a.board.now.messages (lent l.clocks l.flags l.values l.posts) (lent h.new.clocks h.new.flags h.new.values h.new.posts) obeys.loans obeys.follows.beyond i.room;
@@ -81,7 +82,7 @@ loop-command-preserved g c =
     let accepted = result_with_place-ok place h.result c.with_place-in-Call.ensures c.in_ok-line-in-Call.was in
     let size = length-call l.rest.now _ _ first in
     let i = l.invariant in
-    let next : a.from + (length a.bytes.now - length c.in_ok-command.after.now) ≡ place + 3 = omega (arith, size, i.places) in
+    let next : a.from + (length a.bytes.now - length c.in_ok-command.after.now) ≡ place + call_size = omega (arith, size, i.places) in
     record {
       room = room_kept (g.J.Measure.meaning a.board.now.payload.measure).start a.board.now.units a.board.now.messages (lent l.clocks l.flags l.values l.posts) (lent h.new.clocks h.new.flags h.new.values h.new.posts) obeys.loans obeys.follows.beyond i.room;
       reached = λ s shows.

@@ -7,6 +7,7 @@ use Rattle.history.specs.Board.{new_state}
 use Rattle.causality.specs.Boards.{make_refusal}
 use Rattle.causality.specs.Calls.{lent, has_room}
 use Rattle.measures.specs.Worths.{carrying}
+use Rattle.reports.specs.Commands.{making_size}
 use Rattle.reports.specs.declared.commands.Command.TheVariants.{Make}
 use Rattle.reports.specs.declared.faults.RecordingFault.{RecordingFault}
 use Rattle.reports.specs.Faults.{fault_at}
@@ -49,7 +50,7 @@ returns-clause-tells g c =
     let (allowed, units, messages, payload) = match_result-ok _ _ c.make-made.result c.make-made.ensures.board board made in
     board_made (g.J.Measure.meaning a.judge) (g.J.Judge.some_of a.judge) (g.J.Judge.all_of a.judge) a.place a.bytes.now rest n k first (sym by_size ∙ allowed) old new c.follow.result
     (made_with g.J.Measure.meaning g.J.Judge.some_of g.J.Judge.all_of a.judge board.payload.measure (ap (λ p. p.measure) payload) n board.units units k board.messages messages
-    (lent c.make-made.new.clocks c.make-made.new.flags c.make-made.new.values c.make-made.new.posts) old new (a.place + 3) rest c.follow.result c.follow.ensures.tells
+    (lent c.make-made.new.clocks c.make-made.new.flags c.make-made.new.values c.make-made.new.posts) old new (a.place + making_size) rest c.follow.result c.follow.ensures.tells
     (new_state (carrying (g.J.Measure.meaning a.judge) n)) (c.make-made.ensures.begins.makes.state allowed))
 
 pub returns-clause-long : goal.returns-clause-long
