@@ -41,12 +41,12 @@ layer (Relabelling f) = codes "L"
 layer (Recording f) = reason_layer f.reason
 
 -- the number of the fault that an input is too long
-abbrev pub too_long : ℕ
-too_long = 29
+abbrev pub too_long_number : ℕ
+too_long_number = 29
 
 -- The number of each fault.
 abbrev pub number : Fault → ℕ
-number TooLong = too_long
+number TooLong = too_long_number
 number (Pattern f) = readers.number f.refusal
 number (Relabelling f) = readers.number f.refusal
 number (Recording f) = reason_number f.reason
