@@ -38,10 +38,10 @@ module _ (some all : ℕ → Bool) (u : ℕ) where
   VerdictIs (Err e) = Unit {0}
 
   judged_line-is : (r : Result (JudgedMark ℕ) Refusal) → VerdictIs r → judged_line u r ≡ answer_line some all u (judged_told r)
-  judged_line-is (Ok r) (s, a) =
-      ap (λ (x : Bool). Ok (Some (record { unit = u; clock = r.mark.clock; predecessors = r.mark.predecessors; states = r.mark.value; some = x; all = r.verdict.all }))) s
-      ∙ ap (λ (x : Bool). Ok (Some (record { unit = u; clock = r.mark.clock; predecessors = r.mark.predecessors; states = r.mark.value; some = some r.mark.value; all = x }))) a
-  judged_line-is (Err e) s = refl
+  judged_line-is (Ok r) (same_some, same_all) =
+      ap (λ (x : Bool). Ok (Some (record { unit = u; clock = r.mark.clock; predecessors = r.mark.predecessors; states = r.mark.value; some = x; all = r.verdict.all }))) same_some
+      ∙ ap (λ (x : Bool). Ok (Some (record { unit = u; clock = r.mark.clock; predecessors = r.mark.predecessors; states = r.mark.value; some = some r.mark.value; all = x }))) same_all
+  judged_line-is (Err e) says = refl
 
 -- a call was answered by the rules, and the result is the line of the answer
 abbrev pub AnswersCall : Meaning ℕ → ℕ → ℕ → (ℕ → Bool) → (ℕ → Bool) → Memory ℕ → Memory ℕ → calls.Call → Result (Option MarkLine) Reason → Type 0

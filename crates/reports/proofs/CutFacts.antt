@@ -1,5 +1,5 @@
 -- Bytes that come to something and break off, and what other bytes come to that agree with them up to the break.
-use Rattle.std.proofs.Common.{◌≡◌, ℕ, suc, ◌+◌, ◌≤◌, List, [], ◌∷◌, ◌++◌, length, drop, take, Err, Result, sym, ap, ap₂, ◌∙◌, arith, append_assoc}
+use Rattle.std.proofs.Common.{◌≡◌, ℕ, suc, ◌+◌, ◌≤◌, List, [], ◌∷◌, ◌++◌, length, drop, Err, Result, sym, ap, ap₂, ◌∙◌, arith, append_assoc}
 use Rattle.history.specs.Runs.{Call}
 use Rattle.reports.specs.declared.faults.Reason.{Reason}
 use Rattle.reports.specs.declared.faults.RecordingFault.{RecordingFault}

@@ -1,5 +1,5 @@
 -- The decimal digits of numbers, two by two.
-use Rattle.std.proofs.Common.{◌≡◌, ℕ, zero, suc, ◌+◌, ◌*◌, ◌/◌, ◌%◌, ◌^◌, ◌<◌, ◌≤◌, Bool, true, ◌==◌, ◌&&◌, List, ◌++◌, length, take, drop, decimal, slice_index, refl, sym, ap, ◌∙◌, arith, inl, inr, eqb-true, append_assoc, length-append}
+use Rattle.std.proofs.Common.{◌≡◌, ℕ, ◌+◌, ◌*◌, ◌/◌, ◌%◌, ◌^◌, ◌<◌, ◌≤◌, ◌++◌, length, decimal, slice_index, refl, ap, ◌∙◌, arith, append_assoc, length-append}
 use Rattle.std.proofs.lemmas.Fmt.{decimal_digit, decimal_step}
 use Rattle.reports.specs.declared.buffers.TheConstants.{DECIMAL_PAIRS}
 use Rattle.reports.specs.Pages.{two_digits}
@@ -16,10 +16,10 @@ decimal_two n low high = rw (decimal_step n low (omega arith), decimal_digit (n 
 -- A number from 100 on ends with two digits.
 pub decimal_pair : (n : ℕ) → 100 ≤ n → n < 2 ^ 64 → decimal n ≡ decimal (n / 100) ++ two_digits (n % 100)
 decimal_pair n low high =
-    let a : n / 10 / 10 ≡ n / 100 = omega arith in
-    let b : n / 10 % 10 ≡ n % 100 / 10 = omega arith in
-    let c : n % 10 ≡ n % 100 % 10 = omega arith in
-    rw (decimal_step n (omega arith) high, decimal_step (n / 10) (omega arith) (omega arith), append_assoc, a, b, ← c) refl
+    let hundreds : n / 10 / 10 ≡ n / 100 = omega arith in
+    let tens : n / 10 % 10 ≡ n % 100 / 10 = omega arith in
+    let ones : n % 10 ≡ n % 100 % 10 = omega arith in
+    rw (decimal_step n (omega arith) high, decimal_step (n / 10) (omega arith) (omega arith), append_assoc, hundreds, tens, ← ones) refl
 
 pub length_pair : (n : ℕ) → 100 ≤ n → n < 2 ^ 64 → length (decimal n) ≡ length (decimal (n / 100)) + 2
 length_pair n low high = ap length (decimal_pair n low high) ∙ length-append (decimal (n / 100)) _
@@ -27,12 +27,12 @@ length_pair n low high = ap length (decimal_pair n low high) ∙ length-append (
 -- A number from 10,000 on ends with four.
 pub decimal_four : (n : ℕ) → 10000 ≤ n → n < 2 ^ 64 → decimal n ≡ decimal (n / 10000) ++ two_digits (n % 10000 / 100) ++ two_digits (n % 10000 % 100)
 decimal_four n low high =
-    let a : n / 100 / 100 ≡ n / 10000 = omega arith in
-    let b : n / 100 % 100 ≡ n % 10000 / 100 = omega arith in
-    let c : n % 10000 % 100 ≡ n % 100 = omega arith in
-    rw (decimal_pair n (omega arith) high, decimal_pair (n / 100) (omega arith) (omega arith), a, b, c) refl
+    let first : n / 100 / 100 ≡ n / 10000 = omega arith in
+    let third : n / 100 % 100 ≡ n % 10000 / 100 = omega arith in
+    let last : n % 10000 % 100 ≡ n % 100 = omega arith in
+    rw (decimal_pair n (omega arith) high, decimal_pair (n / 100) (omega arith) (omega arith), first, third, last) refl
 
 pub length_four : (n : ℕ) → 10000 ≤ n → n < 2 ^ 64 → length (decimal n) ≡ length (decimal (n / 10000)) + 4
 length_four n low high =
-    let a : n / 100 / 100 ≡ n / 10000 = omega arith in
-    omega (arith, length_pair n (omega arith) high, length_pair (n / 100) (omega arith) (omega arith), ap (λ (k : ℕ). length (decimal k)) a)
+    let first : n / 100 / 100 ≡ n / 10000 = omega arith in
+    omega (arith, length_pair n (omega arith) high, length_pair (n / 100) (omega arith) (omega arith), ap (λ (k : ℕ). length (decimal k)) first)

@@ -18,31 +18,31 @@ over_none from (Some i) e = absurd (cc)
 
 -- What is counted is from 1 to 64.
 counted_is : (n : ℕ) → counted n ≡ true → (0 < n) × (n ≤ 64)
-counted_is n e = let (p, q) = and_parts (nat_le 1 n) (nat_le n 64) e in let a = leb-true 1 n p in (omega arith, leb-true n 64 q)
+counted_is n is = let (some, few) = and_parts (nat_le 1 n) (nat_le n 64) is in let at_least = leb-true 1 n some in (omega arith, leb-true n 64 few)
 
 -- A table without a fault has all of its entries, each below the bound.
 pub table_sound : (b : List ℕ) (from count bound : ℕ) → table_fault b from count bound ≡ None
     → (from + count ≤ length b) × ((k : ℕ) → k < count → get_or (take count (drop from b)) k 0 < bound)
-table_sound b from count bound e =
-    let (p, q) = ask_parts (nat_le (from + count) (length b)) _ (over_fault from (first_over bound (take count (drop from b)))) e in
-    let fits = leb-true (from + count) (length b) p in
+table_sound b from count bound none =
+    let (reaches, each) = ask_parts (nat_le (from + count) (length b)) _ (over_fault from (first_over bound (take count (drop from b)))) none in
+    let fits = leb-true (from + count) (length b) reaches in
     let all : length (take count (drop from b)) ≡ count = simp (length-take, length-drop) (omega arith) in
-    (fits, λ k l. below_bound bound (take count (drop from b)) (over_none from _ q) k (omega arith))
+    (fits, λ k inside. below_bound bound (take count (drop from b)) (over_none from _ each) k (omega arith))
 
 module _ (b : List ℕ) (sound : front_fault b ≡ None) where
   -- The input is not too long, and neither its pattern nor its relabelling has a fault.
   pub front_parts : (nat_le (length b) most_bytes ≡ true) × (pattern_fault b ≡ None) × (relabelling_fault b (relabelling_at b) (labels_in b) ≡ None)
   front_parts =
       let (size, rest) = ask_parts (nat_le (length b) most_bytes) _ (option_or (option_map Pattern (pattern_fault b)) (option_map Relabelling (relabelling_fault b (relabelling_at b) (labels_in b)))) sound in
-      let (p, q) = or_parts _ _ rest in
-      (size, map_part _ _ p, map_part _ _ q)
+      let (pattern, relabelling) = or_parts _ _ rest in
+      (size, map_part _ _ pattern, map_part _ _ relabelling)
 
   -- The head and the table of the pattern have none, and the head and the table of the relabelling.
   parts_sound : (head_fault b ≡ None) × (table_fault b 12 (states_in b * labels_in b) (states_in b) ≡ None) × (relabelling_head_fault b (relabelling_at b) ≡ None)
   parts_sound =
-      let (size, p, q) = front_parts in
-      let (h, t) = or_parts (head_fault b) _ p in
-      (h, t, (or_parts (relabelling_head_fault b (relabelling_at b)) _ q).0)
+      let (size, pattern, relabelling) = front_parts in
+      let (head, table) = or_parts (head_fault b) _ pattern in
+      (head, table, (or_parts (relabelling_head_fault b (relabelling_at b)) _ relabelling).0)
 
   -- There are 1 to 64 states and 1 to 64 labels, and the start is a state.
   head_sound : (0 < states_in b) × (states_in b ≤ 64) × ((0 < labels_in b) × (labels_in b ≤ 64)) × (start_in b < states_in b)
@@ -52,8 +52,8 @@ module _ (b : List ℕ) (sound : front_fault b ≡ None) where
       let states = ask_parts (counted (states_in b)) _ _ tag in
       let labels = ask_parts (counted (labels_in b)) _ _ states.1 in
       let start = ask_parts (nat_lt (start_in b) (states_in b)) _ _ labels.1 in
-      let s = counted_is (states_in b) states.0 in
-      (s.0, s.1, counted_is (labels_in b) labels.0, ltb-true (start_in b) (states_in b) start.0)
+      let counted_states = counted_is (states_in b) states.0 in
+      (counted_states.0, counted_states.1, counted_is (labels_in b) labels.0, ltb-true (start_in b) (states_in b) start.0)
 
   -- There are 1 to 64 labels.
   pub labels_counted : (0 < labels_in b) × (labels_in b ≤ 64)

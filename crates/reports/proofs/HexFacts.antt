@@ -1,5 +1,5 @@
 -- The hexadecimal digits of a byte in the table of pairs, and of the bytes of a word, which are put from its end on.
-use Rattle.std.proofs.Common.{◌≡◌, ℕ, zero, suc, ◌+◌, ◌*◌, ◌/◌, ◌%◌, ◌^◌, ◌<◌, Bool, true, ◌==◌, ◌&&◌, ◌∷◌, ◌++◌, List, length, take, drop, get_or, slice_index, arith, add-zero, zero-add, refl, ap, ap₂, sym, ◌∙◌, inl, inr, eqb-true}
+use Rattle.std.proofs.Common.{◌≡◌, ℕ, zero, suc, ◌+◌, ◌*◌, ◌/◌, ◌%◌, ◌^◌, ◌<◌, ◌∷◌, ◌++◌, List, length, take, drop, get_or, slice_index, arith, add-zero, zero-add, refl, ap, ap₂, sym, ◌∙◌}
 use Rattle.std.proofs.Math.Seq.{take-add, take-append_seam}
 use Rattle.std.proofs.Math.Nat.{div-div-eq-div-mul, pow-suc}
 use Rattle.std.specs.Int.{w64, byte_at, bytes_low_first, to_le_bytes}

@@ -5,8 +5,8 @@ use Rattle.grid.specs.declared.Grid.{Grid}
 use Rattle.history.specs.declared.messages.Post.{Post}
 use Rattle.history.specs.declared.refusals.Refusal.{Refusal}
 use Rattle.history.specs.Limits.{most_units, most_messages}
-use Rattle.history.specs.Board.{State, new_state}
-use Rattle.causality.specs.Boards.{Memory, Shows, fits_board, make_refusal}
+use Rattle.history.specs.Board.{new_state}
+use Rattle.causality.specs.Boards.{Memory, fits_board, make_refusal}
 use Rattle.causality.specs.Calls.{lent, has_room}
 use Rattle.measures.specs.Measures.{Meaning}
 use Rattle.measures.specs.Worths.{carrying}

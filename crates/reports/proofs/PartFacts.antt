@@ -1,5 +1,5 @@
 -- A recording that breaks off, and the part of the input before the break.
-use Rattle.std.proofs.Common.{◌≡◌, ℕ, ◌+◌, ◌*◌, ◌≤◌, List, [], ◌++◌, length, drop, take, None, Err, true, nat_le, refl, sym, ap, ◌∙◌, arith, length-take, append-nil}
+use Rattle.std.proofs.Common.{◌≡◌, ℕ, ◌≤◌, List, [], ◌++◌, length, drop, take, None, Err, true, nat_le, refl, sym, ap, ◌∙◌, arith, length-take, append-nil}
 use Rattle.std.proofs.lemmas.Bool.{le-leb, leb-true}
 use Rattle.std.proofs.lemmas.List.{drop-drop, drop-take, length-drop}
 use Rattle.text.specs.Inputs.{most_bytes}

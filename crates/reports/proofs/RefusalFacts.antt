@@ -1,13 +1,13 @@
 -- A call that a board refuses where a recording breaks off is none that could come next.
 -- Where answers break a recording off with a refusal, the call after those read was refused in the state that they lead to. The rules refuse only
 -- what could not come next. And that call is the one that stands in the bytes there, since each call before it took three.
-use Rattle.std.proofs.Common.{◌≡◌, ℕ, ◌+◌, ◌*◌, List, [], ◌∷◌, ◌++◌, length, drop, Some, None, Ok, Err, Result, refl, sym, ap, ◌∙◌, subst, inl, inr, arith}
+use Rattle.std.proofs.Common.{◌≡◌, ℕ, ◌+◌, ◌*◌, List, [], ◌∷◌, length, drop, Some, Ok, Err, Result, sym, ap, ◌∙◌, subst, inl, inr}
 use Rattle.std.proofs.lemmas.Option.{none-some}
 use Rattle.history.specs.declared.refusals.Refusal.{Refusal}
 use Rattle.history.specs.Events.{Logs}
 use Rattle.history.specs.Rows.{Payload}
 use Rattle.history.specs.Runs.{Size, Call, Possible, by_unit}
-use Rattle.history.specs.Board.{History, new_history, new_state, outcomes_from, refusal, run_from, run, state_from}
+use Rattle.history.specs.Board.{new_history, new_state, outcomes_from, refusal, run, state_from}
 use Rattle.history.proofs.Accepting.{accepts_runs}
 use Rattle.history.specs.Limits.{most_marks}
 use Rattle.causality.specs.Boards.{travelling}

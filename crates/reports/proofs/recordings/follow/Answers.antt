@@ -1,7 +1,7 @@
 -- The loop of follow. At each command the invariant `Reached` holds of the rest; a call that is accepted keeps it (`accepts`), with or without a
 -- line, and every other way out of the loop is one of `missing`, `second`, `refuses` and `closes`. Sizes: a call takes three bytes of the rest, and
 -- a line no more text than these have room for.
-use Rattle.std.proofs.Common.{rules, ◌≡◌, ℕ, ◌+◌, ◌-◌, suc, ◌++◌, List, length, Option, Err, Ok, Some, None, sym, refl, arith, ◌∙◌, ap, append-nil}
+use Rattle.std.proofs.Common.{rules, ◌≡◌, ℕ, ◌+◌, ◌-◌, ◌++◌, List, length, Option, Err, Ok, Some, None, sym, refl, arith, ◌∙◌, ap, append-nil}
 use Rattle.causality.specs.Calls.{lent}
 use Rattle.measures.proofs.Playing.{room_kept}
 use Rattle.reports.specs.Commands.{call_size}

@@ -1,4 +1,4 @@
-use Rattle.std.proofs.Common.{rules, ◌≡◌, ◌+◌, ℕ, suc, List, length, Some, Err, replicate, sym, arith, ◌∙◌, ap, ap₂}
+use Rattle.std.proofs.Common.{rules, ◌≡◌, ◌+◌, ℕ, Some, Err, replicate, sym, arith, ◌∙◌, ap, ap₂}
 use Rattle.std.proofs.lemmas.List.{length-replicate}
 use Rattle.history.specs.declared.messages.Post.TheVariants.{Unsent}
 use Rattle.history.specs.declared.refusals.Refusal.{Refusal}
