@@ -9,36 +9,63 @@ use Rattle.reports.specs.declared.commands.Command.TheVariants.{Make, Call, End}
 use Rattle.reports.specs.declared.faults.Reason.{Reason}
 use Rattle.reports.specs.declared.faults.Reason.TheVariants.{NoByte, NoCommand, NoOperands}
 
--- two operands, and the rest
-abbrev pub with_two : (ℕ → ℕ → Command) → List ℕ → Result (Command × List ℕ) Reason
-with_two command [] = Err NoOperands
-with_two command (x ∷ []) = Err NoOperands
-with_two command (x ∷ (y ∷ rest)) = Ok (command x y, rest)
+-- the first byte of each command
+abbrev pub make_byte : ℕ
+make_byte = 0x10
 
--- The first command of some bytes and the bytes after it, or why there is none: 10 makes a board of so many units and messages, 01 is a
--- send and 02 a receipt, by a unit, of a message; 03 is a mark of a unit with a label, and 00 the end. Bytes are in hexadecimal.
+abbrev pub send_byte : ℕ
+send_byte = 0x01
+
+abbrev pub receive_byte : ℕ
+receive_byte = 0x02
+
+abbrev pub mark_byte : ℕ
+mark_byte = 0x03
+
+abbrev pub end_byte : ℕ
+end_byte = 0x00
+
+-- the bytes of a command that makes a board, and of one that is a call: the first byte, and two operands
+abbrev pub making_size : ℕ
+making_size = 3
+
+abbrev pub call_size : ℕ
+call_size = 3
+
+-- two operands, and the rest
+abbrev pub two_operand_command : (ℕ → ℕ → Command) → List ℕ → Result (Command × List ℕ) Reason
+two_operand_command command [] = Err NoOperands
+two_operand_command command (x ∷ []) = Err NoOperands
+two_operand_command command (x ∷ (y ∷ rest)) = Ok (command x y, rest)
+
+-- The first command of some bytes and the bytes after it, or why there is none. A making is of so many units and messages; a send and a receipt
+-- are by a unit, of a message; a mark is of a unit, with a label.
 abbrev pub first_command : List ℕ → Result (Command × List ℕ) Reason
 first_command [] = Err NoByte
 first_command (b ∷ rest) =
-    if b == 0x10 then with_two Make rest
-    else if b == 0x01 then with_two (λ u m. Call (record { unit = u; event = Send m })) rest
-    else if b == 0x02 then with_two (λ u m. Call (record { unit = u; event = Receive m })) rest
-    else if b == 0x03 then with_two (λ u l. Call (record { unit = u; event = Mark l })) rest
-    else if b == 0x00 then Ok (End, rest)
+    if b == make_byte then two_operand_command Make rest
+    else if b == send_byte then two_operand_command (λ u m. Call (record { unit = u; event = Send m })) rest
+    else if b == receive_byte then two_operand_command (λ u m. Call (record { unit = u; event = Receive m })) rest
+    else if b == mark_byte then two_operand_command (λ u l. Call (record { unit = u; event = Mark l })) rest
+    else if b == end_byte then Ok (End, rest)
     else Err NoCommand
 
 -- what the first byte of a send, a receipt or a mark and its second operand say
 abbrev pub event_in : ℕ → ℕ → Option Event
-event_in b x = if b == 0x01 then Some (send x) else if b == 0x02 then Some (receive x) else if b == 0x03 then Some (mark x) else None
+event_in b x =
+    if b == send_byte then Some (send x)
+    else if b == receive_byte then Some (receive x)
+    else if b == mark_byte then Some (mark x)
+    else None
 
--- a call before others, if there is one; else none
-abbrev pub begun : ℕ → Option Event → List rules.Call → List rules.Call
-begun u None cs = []
-begun u (Some e) cs = call u e ∷ cs
+-- a first call and those after it, if it is one; else no calls
+abbrev pub calls_with_first : ℕ → Option Event → List rules.Call → List rules.Call
+calls_with_first u None cs = []
+calls_with_first u (Some e) cs = call u e ∷ cs
 
--- The calls at the front of some bytes: sends, receipts and marks, of three bytes each, up to the first command that is none of them.
+-- The calls that some bytes begin with: sends, receipts and marks, of three bytes each, up to the first command that is none of them.
 abbrev pub calls_in : List ℕ → List rules.Call
 calls_in [] = []
 calls_in (b ∷ []) = []
 calls_in (b ∷ (u ∷ [])) = []
-calls_in (b ∷ (u ∷ (x ∷ rest))) = begun u (event_in b x) (calls_in rest)
+calls_in (b ∷ (u ∷ (x ∷ rest))) = calls_with_first u (event_in b x) (calls_in rest)

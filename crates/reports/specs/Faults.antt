@@ -1,4 +1,4 @@
--- The faults that end a report, each with the letter of its layer, its number and its place.
+-- The faults that end a report, each with its layer, its number and its place.
 use Rattle.std.specs.Prelude.{ℕ, List, codes}
 use Rattle.history.specs.Refusals as board
 use Rattle.measures.specs.Refusals as readers
@@ -19,35 +19,39 @@ reason_number SecondBoard = 27
 reason_number BytesAfterEnd = 28
 reason_number (Refused r) = board.number r
 
--- the layer that meets it: the board, or the recording's own form
-abbrev pub reason_letter : Reason → List ℕ
-reason_letter NoByte = codes "R"
-reason_letter NoCommand = codes "R"
-reason_letter NoOperands = codes "R"
-reason_letter NoBoard = codes "R"
-reason_letter SecondBoard = codes "R"
-reason_letter BytesAfterEnd = codes "R"
-reason_letter (Refused r) = codes "B"
+-- the layer that meets it, as a report writes it: the board, or the recording's own form
+abbrev pub reason_layer : Reason → List ℕ
+reason_layer NoByte = codes "R"
+reason_layer NoCommand = codes "R"
+reason_layer NoOperands = codes "R"
+reason_layer NoBoard = codes "R"
+reason_layer SecondBoard = codes "R"
+reason_layer BytesAfterEnd = codes "R"
+reason_layer (Refused r) = codes "B"
 
 -- a reason why a recording breaks off, met at a byte of the input
-abbrev pub broken : Reason → ℕ → RecordingFault
-broken reason place = record { reason = reason; place = place }
+abbrev pub fault_at : Reason → ℕ → RecordingFault
+fault_at reason place = record { reason = reason; place = place }
 
--- The letter of the layer that meets each fault: input, pattern, relabelling, recording or board.
-abbrev pub letter : Fault → List ℕ
-letter TooLong = codes "I"
-letter (Pattern f) = codes "P"
-letter (Relabelling f) = codes "L"
-letter (Recording f) = reason_letter f.reason
+-- The layer that meets each fault, as a report writes it: input, pattern, relabelling, recording or board.
+abbrev pub layer : Fault → List ℕ
+layer TooLong = codes "I"
+layer (Pattern f) = codes "P"
+layer (Relabelling f) = codes "L"
+layer (Recording f) = reason_layer f.reason
+
+-- the number of the fault that an input is too long
+abbrev pub too_long_number : ℕ
+too_long_number = 29
 
 -- The number of each fault.
 abbrev pub number : Fault → ℕ
-number TooLong = 29
+number TooLong = too_long_number
 number (Pattern f) = readers.number f.refusal
 number (Relabelling f) = readers.number f.refusal
 number (Recording f) = reason_number f.reason
 
--- The byte of the input at which each fault is told.
+-- The byte of the input at which each fault is met.
 abbrev pub place : Fault → ℕ
 place TooLong = most_bytes
 place (Pattern f) = f.place

@@ -13,7 +13,7 @@ use Rattle.history.specs.Runs.{Size, Call, call, Possible, Run, by_unit, events_
 use Rattle.history.specs.Limits.{most_marks}
 use Rattle.causality.specs.Boards.{make_refusal}
 use Rattle.measures.specs.Acceptance.{state_after, accepts}
-use Rattle.measures.specs.Formats.{states_in, labels_in, start_in, finals_in, table_in, relabelling_labels_in, entries_in, padded}
+use Rattle.measures.specs.Formats.{labels_in, entries_in, padded}
 use Rattle.measures.specs.Laws.{Judged}
 use Rattle.measures.specs.Relabellings.{translated}
 use Rattle.measures.specs.Words.{Word}
@@ -24,14 +24,14 @@ use Rattle.reports.specs.declared.faults.Reason.{Reason}
 use Rattle.reports.specs.declared.faults.Reason.TheVariants.{NoByte, NoCommand, NoOperands, NoBoard, SecondBoard, BytesAfterEnd, Refused}
 use Rattle.reports.specs.declared.faults.RecordingFault.{RecordingFault}
 use Rattle.reports.specs.declared.lines.MarkLine.{MarkLine}
-use Rattle.reports.specs.Commands.{first_command, calls_in}
-use Rattle.reports.specs.Faults.{broken}
-use Rattle.reports.specs.Recordings.{Told}
-use Rattle.reports.specs.Reports.{relabelling_at, recording_at, front_fault, judge_in, told_in}
+use Rattle.reports.specs.Commands.{call_size, making_size, first_command, calls_in}
+use Rattle.reports.specs.Faults.{fault_at}
+use Rattle.reports.specs.Recordings.{Transcript}
+use Rattle.reports.specs.Reports.{relabelling_at, recording_at, front_fault, judge_in, transcript_in}
 
 -- the size of the board that a recording makes
 abbrev pub size_in : List ℕ → Size
-size_in b = sized (judge_in b) (told_in b).units (told_in b).messages most_marks
+size_in b = sized (judge_in b) (transcript_in b).units (transcript_in b).messages most_marks
 
 -- a word of the recording's labels in the pattern's
 abbrev pub in_pattern : List ℕ → Word → Word
@@ -42,7 +42,7 @@ abbrev pub marks_among : List Call → ℕ
 marks_among [] = 0
 marks_among (c ∷ cs) = tick (Some c.act) + marks_among cs
 
--- What a line tells of the mark at place i of unit u: its unit; its own number among its unit's marks, from 1; the units of its immediate
+-- What a line tells of the mark that is event i of unit u: its unit; its own number among its unit's marks, from 1; the units of its immediate
 -- predecessors; exactly the states to which the words of the longest flows that end there lead the pattern in the bytes b, once relabelled; and
 -- whether some, and whether each, of these words is accepted.
 pub record Tells (b : List ℕ) (ev : Events) (u i : ℕ) (line : MarkLine) : Type 0 where
@@ -52,15 +52,10 @@ pub record Tells (b : List ℕ) (ev : Events) (u i : ℕ) (line : MarkLine) : Ty
   pub states_are : (q : ℕ) → Member q line.states ↔ ((f : List Place) × Longest ev u i f × (state_after b (in_pattern b (word ev f)) ≡ q))
   pub verdict : Judged (λ w. IsTrue (accepts b (in_pattern b w))) line.some line.all ev u i
 
--- Two inputs have the same pattern and the same relabelling.
+-- Two inputs have the same front: the same bytes before their recordings, which are the pattern and the relabelling.
 pub record SameFront (b d : List ℕ) : Type 0 where
-  pub states : states_in b ≡ states_in d
-  pub labels : labels_in b ≡ labels_in d
-  pub start : start_in b ≡ start_in d
-  pub finals : finals_in b ≡ finals_in d
-  pub table : table_in b ≡ table_in d
-  pub count : relabelling_labels_in b (relabelling_at b) ≡ relabelling_labels_in d (relabelling_at d)
-  pub entries : entries_in b (relabelling_at b) ≡ entries_in d (relabelling_at d)
+  pub begins : recording_at b ≡ recording_at d
+  pub bytes : take (recording_at b) b ≡ take (recording_at d) d
 
 -- the lines of unit u
 abbrev pub lines_of : ℕ → List MarkLine → List MarkLine
@@ -70,20 +65,23 @@ lines_of u (l ∷ ls) = if u == l.unit then l ∷ lines_of u ls else lines_of u 
 -- a making that is refused for its size, where a recording begins
 abbrev pub RefusedMaking : List ℕ → ℕ → Refusal → Type 0
 RefusedMaking b place e =
-    (place ≡ recording_at b) × (n : ℕ) × (k : ℕ) × (rest : List ℕ) × (first_command (drop place b) ≡ Ok (commands.Make n k, rest)) × (make_refusal n k true ≡ Some e)
+    (place ≡ recording_at b) × (n : ℕ) × (k : ℕ) × (rest : List ℕ)
+    × (first_command (drop place b) ≡ Ok (commands.Make n k, rest)) × (make_refusal n k true ≡ Some e)
 
 -- the byte after the calls that were read, where a board was made
 abbrev pub AfterCalls : List ℕ → ℕ → Type 0
 AfterCalls b place =
-    (n : ℕ) × (k : ℕ) × (rest : List ℕ) × (first_command (drop (recording_at b) b) ≡ Ok (commands.Make n k, rest)) × (make_refusal n k true ≡ None)
-    × (place ≡ recording_at b + 3 + 3 * length (told_in b).calls)
+    (n : ℕ) × (k : ℕ) × (rest : List ℕ)
+    × (first_command (drop (recording_at b) b) ≡ Ok (commands.Make n k, rest)) × (make_refusal n k true ≡ None)
+    × (place ≡ recording_at b + making_size + call_size * length (transcript_in b).calls)
 
 -- a call that the board refuses after the calls that were read
-abbrev pub RefusedCall : List ℕ → Told → ℕ → Refusal → Type 0
+abbrev pub RefusedCall : List ℕ → Transcript → ℕ → Refusal → Type 0
 RefusedCall b t place e =
     let M = carrying (judge_in b) t.units in
     let z = sized (judge_in b) t.units t.messages most_marks in
-    (c : Call) × (cs : List Call) × (calls_in (drop place b) ≡ c ∷ cs) × (board.refusal M z (board.run M z t.calls).state c.unit c.act ≡ Some e)
+    (c : Call) × (cs : List Call) × (calls_in (drop place b) ≡ c ∷ cs)
+    × (board.refusal M z (board.run M z t.calls).state c.unit c.act ≡ Some e)
 
 -- bytes that are no whole command, where the recording begins or after its calls
 abbrev pub Malformed : List ℕ → ℕ → Reason → Type 0
@@ -96,49 +94,61 @@ Breaks b place NoByte = Malformed b place NoByte
 Breaks b place NoCommand = Malformed b place NoCommand
 Breaks b place NoOperands = Malformed b place NoOperands
 Breaks b place NoBoard =
-    (place ≡ recording_at b) × (c : Command) × (rest : List ℕ) × (first_command (drop place b) ≡ Ok (c, rest)) × ((n k : ℕ) → c ≡ commands.Make n k → ⊥)
-Breaks b place SecondBoard = AfterCalls b place × (n : ℕ) × (k : ℕ) × (rest : List ℕ) × (first_command (drop place b) ≡ Ok (commands.Make n k, rest))
-Breaks b place BytesAfterEnd = (p : ℕ) × (place ≡ suc p) × AfterCalls b p × (x : ℕ) × (rest : List ℕ) × (first_command (drop p b) ≡ Ok (commands.End, x ∷ rest))
-Breaks b place (Refused e) = RefusedMaking b place e ⊎ (AfterCalls b place × RefusedCall b (told_in b) place e)
+    (place ≡ recording_at b) × (c : Command) × (rest : List ℕ)
+    × (first_command (drop place b) ≡ Ok (c, rest)) × ((n k : ℕ) → c ≡ commands.Make n k → ⊥)
+Breaks b place SecondBoard =
+    AfterCalls b place × (n : ℕ) × (k : ℕ) × (rest : List ℕ) × (first_command (drop place b) ≡ Ok (commands.Make n k, rest))
+Breaks b place BytesAfterEnd =
+    (p : ℕ) × (place ≡ suc p) × AfterCalls b p × (x : ℕ) × (rest : List ℕ)
+    × (first_command (drop p b) ≡ Ok (commands.End, x ∷ rest))
+Breaks b place (Refused e) = RefusedMaking b place e ⊎ (AfterCalls b place × RefusedCall b (transcript_in b) place e)
 
 -- What is true of a report on an input whose pattern and relabelling are accepted.
 pub record ReportTrue (b : List ℕ) : Type 0 where
   -- the board has the size that the making asks for
-  pub sized : (n k : ℕ) (rest : List ℕ) → first_command (drop (recording_at b) b) ≡ Ok (commands.Make n k, rest) → make_refusal n k true ≡ None
-      → ((told_in b).units ≡ n) × ((told_in b).messages ≡ k)
+  pub sized : (n k : ℕ) (rest : List ℕ)
+      → first_command (drop (recording_at b) b) ≡ Ok (commands.Make n k, rest) → make_refusal n k true ≡ None
+      → ((transcript_in b).units ≡ n) × ((transcript_in b).messages ≡ k)
   -- the calls read, up to the end or to where the recording breaks off, are what a real run could do
-  pub run : Run (size_in b) (told_in b).calls
+  pub run : Run (size_in b) (transcript_in b).calls
   -- and a call that the board refuses, there, is none that could come next
-  pub refused : (e : Refusal) (place : ℕ) → (told_in b).end ≡ Err (broken (Refused e) place) → (c : Call) (cs : List Call) → calls_in (drop place b) ≡ c ∷ cs
-      → Possible (size_in b) (by_unit (told_in b).calls) c.unit c.act → ⊥
+  pub refused : (e : Refusal) (place : ℕ) → (transcript_in b).end ≡ Err (fault_at (Refused e) place)
+      → (c : Call) (cs : List Call) → calls_in (drop place b) ≡ c ∷ cs
+      → Possible (size_in b) (by_unit (transcript_in b).calls) c.unit c.act → ⊥
   -- where it ends well, they are all calls after the command that makes the board
-  pub all_read : (left : ℕ) → (told_in b).end ≡ Ok left → (told_in b).calls ≡ calls_in (drop 3 (drop (recording_at b) b))
+  pub all_read : (left : ℕ) → (transcript_in b).end ≡ Ok left
+      → (transcript_in b).calls ≡ calls_in (drop making_size (drop (recording_at b) b))
   -- and after them stands an end, and nothing more
-  pub ended : (left : ℕ) → (told_in b).end ≡ Ok left → (p : ℕ) × AfterCalls b p × (first_command (drop p b) ≡ Ok (commands.End, []))
+  pub ended : (left : ℕ) → (transcript_in b).end ≡ Ok left
+      → (p : ℕ) × AfterCalls b p × (first_command (drop p b) ≡ Ok (commands.End, []))
   -- there is a line for each mark read, and no other, in the order of the recording
-  pub lines_counted : length (told_in b).lines ≡ marks_among (told_in b).calls
+  pub lines_counted : length (transcript_in b).lines ≡ marks_among (transcript_in b).calls
   -- and it tells of the longest flows of the calls read up to that mark
-  pub each_line : (before after : List Call) (u l : ℕ) → (told_in b).calls ≡ before ++ call u (mark l) ∷ after
-      → (line : MarkLine) × (slice_get (told_in b).lines (marks_among before) ≡ Some line) × Tells b (events_in (before ++ call u (mark l) ∷ [])) u (length (by_unit before u)) line
+  pub each_line : (before after : List Call) (u l : ℕ) → (transcript_in b).calls ≡ before ++ call u (mark l) ∷ after
+      → (line : MarkLine) × (slice_get (transcript_in b).lines (marks_among before) ≡ Some line)
+      × Tells b (events_in (before ++ call u (mark l) ∷ [])) u (length (by_unit before u)) line
   -- at the end, the messages that were sent and not received are counted
-  pub left_counted : (left : ℕ) → (told_in b).end ≡ Ok left
-      → HowMany (λ p. Sent (events_in (told_in b).calls) p × (Received (events_in (told_in b).calls) p → ⊥)) left
+  pub left_counted : (left : ℕ) → (transcript_in b).end ≡ Ok left
+      → HowMany (λ p. Sent (events_in (transcript_in b).calls) p × (Received (events_in (transcript_in b).calls) p → ⊥)) left
   -- where the recording breaks off, its lines are exactly those of its part before the break
-  pub part : (f : RecordingFault) → (told_in b).end ≡ Err f
-      → (front_fault (take f.place b) ≡ None) × SameFront b (take f.place b) × ((told_in (take f.place b)).calls ≡ (told_in b).calls) × ((told_in (take f.place b)).lines ≡ (told_in b).lines)
+  pub part : (f : RecordingFault) → (transcript_in b).end ≡ Err f
+      → (front_fault (take f.place b) ≡ None) × SameFront b (take f.place b)
+      × ((transcript_in (take f.place b)).calls ≡ (transcript_in b).calls)
+      × ((transcript_in (take f.place b)).lines ≡ (transcript_in b).lines)
   -- the calls read are all that stand before the break
-  pub read_to : (f : RecordingFault) → (told_in b).end ≡ Err f → (told_in b).calls ≡ calls_in (drop (recording_at b + 3) (take f.place b))
+  pub read_to : (f : RecordingFault) → (transcript_in b).end ≡ Err f
+      → (transcript_in b).calls ≡ calls_in (drop (recording_at b + making_size) (take f.place b))
   -- and what stands there is a reason to break off
-  pub broke : (f : RecordingFault) → (told_in b).end ≡ Err f → Breaks b f.place f.reason
+  pub broke : (f : RecordingFault) → (transcript_in b).end ≡ Err f → Breaks b f.place f.reason
 
 -- What two reports have in common whose recordings have the same accepted calls unit by unit, whatever the numbers of units and of messages of
 -- their boards: each unit's lines, in their order; and the last line, if both end well.
 pub record ReportsAgree (b d : List ℕ) : Type 0 where
-  pub lines : (u : ℕ) → lines_of u (told_in b).lines ≡ lines_of u (told_in d).lines
-  pub left : (x y : ℕ) → (told_in b).end ≡ Ok x → (told_in d).end ≡ Ok y → x ≡ y
+  pub lines : (u : ℕ) → lines_of u (transcript_in b).lines ≡ lines_of u (transcript_in d).lines
+  pub left : (x y : ℕ) → (transcript_in b).end ≡ Ok x → (transcript_in d).end ≡ Ok y → x ≡ y
 
 -- The law of reports, for every input.
 pub record LawOfReports : Type 0 where
   pub true_of_each : (b : List ℕ) → front_fault b ≡ None → ReportTrue b
   pub agree : (b d : List ℕ) → front_fault b ≡ None → front_fault d ≡ None → SameFront b d
-      → SameByUnit (told_in b).calls (told_in d).calls → ReportsAgree b d
+      → SameByUnit (transcript_in b).calls (transcript_in d).calls → ReportsAgree b d

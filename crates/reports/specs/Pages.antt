@@ -2,10 +2,10 @@
 use Rattle.std.specs.Prelude.{ℕ, ◌+◌, ◌/◌, ◌%◌, List, [], ◌∷◌}
 
 -- the two decimal digits of a number below 100
-abbrev pub two : ℕ → List ℕ
-two n = (48 + n / 10) ∷ (48 + n % 10) ∷ []
+abbrev pub two_digits : ℕ → List ℕ
+two_digits n = (48 + n / 10) ∷ (48 + n % 10) ∷ []
 
 -- the text of a report so far, and how many bytes there is room for in all
-pub record Written : Type 0 where
+pub record PageText : Type 0 where
   pub text : List ℕ
   pub room : ℕ

@@ -13,13 +13,13 @@ use Rattle.reports.specs.declared.faults.Reason.{Reason}
 use Rattle.reports.specs.declared.faults.Reason.TheVariants.{NoBoard, SecondBoard, BytesAfterEnd, Refused}
 use Rattle.reports.specs.declared.faults.RecordingFault.{RecordingFault}
 use Rattle.reports.specs.declared.lines.MarkLine.{MarkLine}
-use Rattle.reports.specs.Commands.{first_command, calls_in}
-use Rattle.reports.specs.Faults.{broken}
+use Rattle.reports.specs.Commands.{call_size, making_size, first_command, calls_in}
+use Rattle.reports.specs.Faults.{fault_at}
 
 -- What a recording comes to: the numbers of units and of messages of the board that it makes, or 0 where it makes none; the calls that were
 -- read, up to its end or to where it breaks off; the lines of their marks; and the number of messages that are left on their way, or why and
 -- where it breaks off.
-pub record Told : Type 0 where
+pub record Transcript : Type 0 where
   pub units : ℕ
   pub messages : ℕ
   pub calls : List Call
@@ -28,26 +28,26 @@ pub record Told : Type 0 where
 
 -- How the bytes after the calls close a recording, with so many messages on their way: they are the end alone, or they break it off. No call begins
 -- them, so the last case does not arise.
-abbrev pub closed : ℕ → ℕ → Result (Command × List ℕ) Reason → Result ℕ RecordingFault
-closed left place (Err reason) = Err (broken reason place)
-closed left place (Ok (commands.End, [])) = Ok left
-closed left place (Ok (commands.End, x ∷ rest)) = Err (broken BytesAfterEnd (place + 1))
-closed left place (Ok (commands.Make n k, rest)) = Err (broken SecondBoard place)
-closed left place (Ok (commands.Call c, rest)) = Err (broken SecondBoard place)
+abbrev pub end_after_calls : ℕ → ℕ → Result (Command × List ℕ) Reason → Result ℕ RecordingFault
+end_after_calls left place (Err reason) = Err (fault_at reason place)
+end_after_calls left place (Ok (commands.End, [])) = Ok left
+end_after_calls left place (Ok (commands.End, x ∷ rest)) = Err (fault_at BytesAfterEnd (place + 1))
+end_after_calls left place (Ok (commands.Make n k, rest)) = Err (fault_at SecondBoard place)
+end_after_calls left place (Ok (commands.Call c, rest)) = Err (fault_at SecondBoard place)
 
 -- Where the first refusal among the answers to calls of three bytes each, the first at a byte of the input, breaks a recording off;
 -- else it ends as the bytes after the calls say.
 abbrev pub ending : {V : Type 0} → ℕ → List (Result (Answer V) Refusal) → Result ℕ RecordingFault → Result ℕ RecordingFault
 ending place [] closing = closing
-ending place (Ok a ∷ xs) closing = ending (place + 3) xs closing
-ending place (Err e ∷ xs) closing = Err (broken (Refused e) place)
+ending place (Ok a ∷ xs) closing = ending (place + call_size) xs closing
+ending place (Err e ∷ xs) closing = Err (fault_at (Refused e) place)
 
 -- the calls before the first that is refused
-abbrev pub before_refusal : {V : Type 0} → List Call → List (Result (Answer V) Refusal) → List Call
-before_refusal [] xs = []
-before_refusal (c ∷ cs) [] = []
-before_refusal (c ∷ cs) (Ok a ∷ xs) = c ∷ before_refusal cs xs
-before_refusal (c ∷ cs) (Err e ∷ xs) = []
+abbrev pub calls_before_refusal : {V : Type 0} → List Call → List (Result (Answer V) Refusal) → List Call
+calls_before_refusal [] xs = []
+calls_before_refusal (c ∷ cs) [] = []
+calls_before_refusal (c ∷ cs) (Ok a ∷ xs) = c ∷ calls_before_refusal cs xs
+calls_before_refusal (c ∷ cs) (Err e ∷ xs) = []
 
 module _ (m : Meaning ℕ) (some all : ℕ → Bool) where
   -- the line of an accepted call of unit u: only a mark has one
@@ -63,36 +63,36 @@ module _ (m : Meaning ℕ) (some all : ℕ → Bool) where
   lines (c ∷ cs) (Ok a ∷ xs) = line c.unit a ++ lines cs xs
   lines (c ∷ cs) (Err e ∷ xs) = []
 
-  -- What a board of n units and k messages in a state tells of the calls at the front of some bytes, which begin at a byte of the input.
-  abbrev pub told_on : ℕ → ℕ → State ℕ → ℕ → List ℕ → Told
-  told_on n k s place bytes =
+  -- What the calls that some bytes begin with come to on a board of n units and k messages in a state; they stand at a byte of the input.
+  abbrev pub transcript_on : ℕ → ℕ → State ℕ → ℕ → List ℕ → Transcript
+  transcript_on n k s place bytes =
       let cs = calls_in bytes in
       let xs = outcomes_from (carrying m n) (sized m n k most_marks) s cs in
       let left = travelling (state_from (carrying m n) (sized m n k most_marks) s cs).posts k in
       record {
         units = n;
         messages = k;
-        calls = before_refusal cs xs;
+        calls = calls_before_refusal cs xs;
         lines = lines cs xs;
-        end = ending place xs (closed left (place + 3 * length cs) (first_command (drop (3 * length cs) bytes)));
+        end = ending place xs (end_after_calls left (place + call_size * length cs) (first_command (drop (call_size * length cs) bytes)));
       }
 
-  -- what breaks off before any call tells nothing
-  abbrev pub told_nothing : Reason → ℕ → Told
-  told_nothing reason place = record { units = 0; messages = 0; calls = []; lines = []; end = Err (broken reason place) }
+  -- a recording that breaks off before any call
+  abbrev pub empty_transcript : Reason → ℕ → Transcript
+  empty_transcript reason place = record { units = 0; messages = 0; calls = []; lines = []; end = Err (fault_at reason place) }
 
-  -- a recording by its making, which is refused for its size, or makes the board on which the rest is told
-  abbrev pub told_of_board : ℕ → ℕ → ℕ → List ℕ → Option Refusal → Told
-  told_of_board n k place bytes (Some e) = told_nothing (Refused e) place
-  told_of_board n k place bytes None = told_on n k (new_state (carrying m n)) (place + 3) bytes
+  -- a recording by its making, which is refused for its size, or makes the board to which the rest is handed
+  abbrev pub transcript_of_board : ℕ → ℕ → ℕ → List ℕ → Option Refusal → Transcript
+  transcript_of_board n k place bytes (Some e) = empty_transcript (Refused e) place
+  transcript_of_board n k place bytes None = transcript_on n k (new_state (carrying m n)) (place + making_size) bytes
 
   -- a recording by its first command, which begins at a byte of the input
-  abbrev pub told_from : ℕ → Result (Command × List ℕ) Reason → Told
-  told_from place (Err reason) = told_nothing reason place
-  told_from place (Ok (commands.Make n k, rest)) = told_of_board n k place rest (make_refusal n k true)
-  told_from place (Ok (commands.Call c, rest)) = told_nothing NoBoard place
-  told_from place (Ok (commands.End, rest)) = told_nothing NoBoard place
+  abbrev pub transcript_from : ℕ → Result (Command × List ℕ) Reason → Transcript
+  transcript_from place (Err reason) = empty_transcript reason place
+  transcript_from place (Ok (commands.Make n k, rest)) = transcript_of_board n k place rest (make_refusal n k true)
+  transcript_from place (Ok (commands.Call c, rest)) = empty_transcript NoBoard place
+  transcript_from place (Ok (commands.End, rest)) = empty_transcript NoBoard place
 
   -- What a recording in some bytes comes to, which begin at a byte of the input: its first command makes the board.
-  abbrev pub told : ℕ → List ℕ → Told
-  told place bytes = told_from place (first_command bytes)
+  abbrev pub transcript : ℕ → List ℕ → Transcript
+  transcript place bytes = transcript_from place (first_command bytes)

@@ -12,7 +12,7 @@ use Rattle.reports.specs.declared.faults.Fault.TheVariants.{TooLong, Pattern, Re
 use Rattle.reports.specs.declared.faults.RecordingFault.{RecordingFault}
 use Rattle.reports.specs.Lines.{mark_lines, left_text, fault_text, header}
 use Rattle.text.specs.Lines.{line_of}
-use Rattle.reports.specs.Recordings.{Told, told}
+use Rattle.reports.specs.Recordings.{Transcript, transcript}
 
 -- the byte after the pattern, where the relabelling begins
 abbrev pub relabelling_at : List ℕ → ℕ
@@ -44,8 +44,8 @@ abbrev pub all_in : List ℕ → ℕ → Bool
 all_in b set = within set (finals_in b)
 
 -- What the recording comes to.
-abbrev pub told_in : List ℕ → Told
-told_in b = told (judge_in b) (some_in b) (all_in b) (recording_at b) (drop (recording_at b) b)
+abbrev pub transcript_in : List ℕ → Transcript
+transcript_in b = transcript (judge_in b) (some_in b) (all_in b) (recording_at b) (drop (recording_at b) b)
 
 -- a fault of a recording is one of its input
 abbrev pub as_fault : Result ℕ RecordingFault → Result ℕ Fault
@@ -55,12 +55,12 @@ as_fault (Err f) = Err (Recording f)
 -- How the report ends, by the fault before the recording: with it, or as the recording does.
 abbrev pub end_by : List ℕ → Option Fault → Result ℕ Fault
 end_by b (Some f) = Err f
-end_by b None = as_fault (told_in b).end
+end_by b None = as_fault (transcript_in b).end
 
 -- The text before the last line: nothing where there is such a fault; else the header, and the lines of the marks.
 abbrev pub text_by : List ℕ → Option Fault → List ℕ
 text_by b (Some f) = []
-text_by b None = header ++ mark_lines (told_in b).lines
+text_by b None = header ++ mark_lines (transcript_in b).lines
 
 -- the last line
 abbrev pub end_text : Result ℕ Fault → List ℕ

@@ -1,31 +1,48 @@
--- What the contracts of the functions that read and tell a recording speak of.
+-- What the contracts of the functions that read a recording and write its lines speak of.
 use Rattle.std.specs.Prelude.{◌≡◌, ℕ, Bool, List, ◌++◌, Ok, Err, Result, Some, None, Option}
 use Rattle.history.specs.declared.refusals.Refusal.{Refusal}
-use Rattle.history.specs.Board.{Answer, own_clock, marked}
+use Rattle.history.specs.Board.{State, Answer, own_clock, marked}
+use Rattle.causality.specs.Boards.{Memory, Shows, travelling}
+use Rattle.measures.specs.Measures.{Meaning}
+use Rattle.reports.specs.declared.commands.Command.TheVariants.{End}
 use Rattle.reports.specs.declared.faults.Reason.{Reason}
 use Rattle.reports.specs.declared.faults.Reason.TheVariants.{Refused}
 use Rattle.reports.specs.declared.faults.RecordingFault.{RecordingFault}
 use Rattle.reports.specs.declared.lines.MarkLine.{MarkLine}
-use Rattle.reports.specs.Faults.{broken}
+use Rattle.reports.specs.Faults.{fault_at}
 use Rattle.reports.specs.Lines.{mark_lines}
-use Rattle.reports.specs.Recordings.{Told}
+use Rattle.reports.specs.Recordings.{Transcript, end_after_calls, transcript_on}
 
 -- what was read or done, or why the recording breaks off at a byte of the input
-abbrev pub placed_at : {T : Type 0} → Result T Reason → ℕ → Result T RecordingFault
-placed_at (Ok x) place = Ok x
-placed_at (Err reason) place = Err (broken reason place)
+abbrev pub result_with_place : {T : Type 0} → Result T Reason → ℕ → Result T RecordingFault
+result_with_place (Ok x) place = Ok x
+result_with_place (Err reason) place = Err (fault_at reason place)
 
 -- what a board answers, or its refusal as the reason why a recording breaks off
-abbrev pub refused_as : {T : Type 0} → Result T Refusal → Result T Reason
-refused_as (Ok x) = Ok x
-refused_as (Err e) = Err (Refused e)
+abbrev pub result_with_reason : {T : Type 0} → Result T Refusal → Result T Reason
+result_with_reason (Ok x) = Ok x
+result_with_reason (Err e) = Err (Refused e)
 
--- The line that is told of the answer to a call of unit u, or why the recording breaks off there.
-abbrev pub shown : (ℕ → Bool) → (ℕ → Bool) → ℕ → Result (Answer ℕ) Refusal → Result (Option MarkLine) Reason
-shown some all u (Ok (own_clock clock)) = Ok None
-shown some all u (Ok (marked clock predecessors v)) = Ok (Some (record { unit = u; clock = clock; predecessors = predecessors; states = v; some = some v; all = all v }))
-shown some all u (Err e) = Err (Refused e)
+-- The line of the answer to a call of unit u, if it has one, or why the recording breaks off there.
+abbrev pub answer_line : (ℕ → Bool) → (ℕ → Bool) → ℕ → Result (Answer ℕ) Refusal → Result (Option MarkLine) Reason
+answer_line some all u (Ok (own_clock clock)) = Ok None
+answer_line some all u (Ok (marked clock predecessors v)) =
+    Ok (Some (record { unit = u; clock = clock; predecessors = predecessors; states = v; some = some v; all = all v }))
+answer_line some all u (Err e) = Err (Refused e)
 
 -- The lines of t are appended to the old text, and the result is t's end.
-abbrev pub Wrote : List ℕ → List ℕ → Told → Result ℕ RecordingFault → Type 0
+abbrev pub Wrote : List ℕ → List ℕ → Transcript → Result ℕ RecordingFault → Type 0
 Wrote old new t result = (new ≡ old ++ mark_lines t.lines) × (result ≡ t.end)
+
+-- A board of n units and k messages, under a judge that is known by three functions, was handed the calls that the bytes begin with, which stand at
+-- a byte of the input: of each state that its memory showed, the transcript was written.
+abbrev pub WroteOn : {J : Type 0} → (J → Meaning ℕ) → (J → ℕ → Bool) → (J → ℕ → Bool) → J → ℕ → ℕ → Memory ℕ
+    → ℕ → List ℕ → List ℕ → List ℕ → Result ℕ RecordingFault → Type 0
+WroteOn meaning some all judge n k memory from bytes old new result =
+    (s : State ℕ) → Shows (meaning judge).start n k memory s
+    → Wrote old new (transcript_on (meaning judge) (some judge) (all judge) n k s from bytes) result
+
+-- Of each state that the memory of such a board shows, a recording ends so whose end stands at a byte of the input, with these bytes after it.
+abbrev pub EndedOn : {J : Type 0} → (J → Meaning ℕ) → J → ℕ → ℕ → Memory ℕ → ℕ → List ℕ → Result ℕ RecordingFault → Type 0
+EndedOn meaning judge n k memory place after result =
+    (s : State ℕ) → Shows (meaning judge).start n k memory s → result ≡ end_after_calls (travelling s.posts k) place (Ok (End, after))

@@ -1,9 +1,9 @@
-// Pieces of text, put in place: each stands after the bytes before `at`, which stay as they are; those after it are free. A function that puts a
+// Pieces of text, put where they stand: each after the bytes before `at`, which stay as they are; those after it are free. A function that puts a
 // piece answers where it ends.
 ghost use Rattle.std.specs.Prelude.{◌≡◌, ◌+◌, ◌/◌, ◌%◌, ◌<◌, ◌≤◌, [], ◌∷◌, ◌++◌, length, take, drop, decimal};
 ghost use Rattle.text.specs.Hex.{digit_in_hex, hex_word};
 ghost use Rattle.text.specs.Lines.{bit};
-ghost use Rattle.reports.specs.Pages.{two};
+ghost use Rattle.reports.specs.Pages.{two_digits};
 
 // The two hexadecimal digits of each byte, one after the other.
 static HEX_PAIRS: [u8; 512] =
@@ -39,7 +39,7 @@ pub(crate) fn put_bit(bytes: &mut [u8], at: usize, yes: bool) -> usize
 #[inline(always)]
 fn put_pair(bytes: &mut [u8], at: usize, pair: u64) -> usize
     requires { (pair < 100) × (at + 2 ≤ length bytes.old) }
-    ensures text { take result bytes.new ≡ take at bytes.old ++ two pair }
+    ensures text { take result bytes.new ≡ take at bytes.old ++ two_digits pair }
     ensures end { result ≡ at + 2 }
 {
     let from = pair as usize * 2;
@@ -50,7 +50,7 @@ fn put_pair(bytes: &mut [u8], at: usize, pair: u64) -> usize
 
 // Puts a number below 100 in decimal.
 #[inline(always)]
-#[tactic(auto, using(std::proofs::lemmas::Fmt::decimal_digit, crate::proofs::Pieces::decimal_two))]
+#[tactic(auto, using(std::proofs::lemmas::Fmt::decimal_digit, crate::proofs::DecimalFacts::decimal_two))]
 fn put_small(bytes: &mut [u8], at: usize, n: u64) -> usize
     requires { (n < 100) × (at + length (decimal n) ≤ length bytes.old) }
     ensures text { take result bytes.new ≡ take at bytes.old ++ decimal n }
@@ -129,7 +129,8 @@ pub(crate) fn put_decimal(bytes: &mut [u8], at: usize, n: u64) -> usize
 #[inline(always)]
 fn write_pair(bytes: &mut [u8], at: usize, byte: u8)
     requires { at + 2 ≤ length bytes.old }
-    ensures written { drop at bytes.new ≡ digit_in_hex (byte / 16) ∷ digit_in_hex (byte % 16) ∷ drop (at + 2) bytes.old }
+    ensures written { drop at bytes.new
+        ≡ digit_in_hex (byte / 16) ∷ digit_in_hex (byte % 16) ∷ drop (at + 2) bytes.old }
     ensures before { take at bytes.new ≡ take at bytes.old }
 {
     let from = byte as usize * 2;

@@ -1,6 +1,6 @@
 // The faults that end a report.
 ghost use Rattle.std.specs.Prelude.{◌≡◌, [], ◌∷◌};
-ghost use Rattle.reports.specs.Faults.{letter, number, place};
+ghost use Rattle.reports.specs.Faults.{layer, number, place};
 
 use history::Refusal;
 use text::MOST_BYTES;
@@ -69,9 +69,9 @@ pub(crate) enum Fault {
 }
 
 impl Fault {
-    // The letter of the layer that meets the fault: input, pattern, relabelling, recording or board.
-    pub(crate) fn letter(self) -> u8
-        ensures { letter self ≡ result ∷ [] }
+    // The layer that meets the fault, by its first byte in a report: input, pattern, relabelling, recording or board.
+    pub(crate) fn layer(self) -> u8
+        ensures { layer self ≡ result ∷ [] }
     {
         match self {
             Fault::TooLong => b'I',
@@ -95,7 +95,7 @@ impl Fault {
         }
     }
 
-    // The byte of the input at which it is told.
+    // The byte of the input at which it is met.
     pub(crate) fn place(self) -> usize
         ensures { result ≡ place self }
     {

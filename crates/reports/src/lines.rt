@@ -1,4 +1,4 @@
-// The lines of a report, each written in place, after those before it.
+// The lines of a report, each written where it stands, after those before it.
 ghost use Rattle.std.specs.Prelude.{◌≡◌, ◌+◌, ◌≤◌, [], ◌++◌, length, take, IfOk, vec_capacity};
 ghost use Rattle.reports.specs.Lines.{mark_text, left_text, fault_text, header};
 ghost use Rattle.text.specs.Lines.{line_of};
@@ -13,6 +13,9 @@ use std::marker::Model;
 // The longest line is a mark's: three numbers, each counted as 20 digits, 16 hexadecimal digits, and 8 more bytes.
 pub(crate) const MOST_LINE: usize = 84;
 
+// The most bytes of text for each byte of a recording: a mark has a line, and its call three bytes.
+pub(crate) const TEXT_PER_BYTE: usize = 28;
+
 // How many bytes are made ready for lines at a time.
 const STEP: usize = 1024;
 
@@ -25,11 +28,12 @@ pub(crate) struct Page {
 
 impl Model for Page {
     ghost use Rattle.std.specs.Prelude.{◌≤◌, length, take, vec_capacity};
-    ghost use Rattle.reports.specs.Pages.{Written};
+    ghost use Rattle.reports.specs.Pages.{PageText};
 
-    ghost Value = { Written };
+    ghost Value = { PageText };
 
-    ghost view = { λ page. record { text = take page.len page.bytes.items; room = vec_capacity page.bytes } };
+    ghost view = { λ page.
+        record { text = take page.len page.bytes.items; room = vec_capacity page.bytes } };
 
     ghost invariant = { λ page. page.len ≤ length page.bytes.items };
 }
@@ -105,7 +109,7 @@ fn put_fault(bytes: &mut [u8], at: usize, fault: Fault) -> usize
     ensures short { result ≤ at + MOST_LINE }
 {
     let at = put_text(bytes, at, b"fault ");
-    let at = put_byte(bytes, at, fault.letter());
+    let at = put_byte(bytes, at, fault.layer());
     let at = put_byte(bytes, at, b' ');
     let at = put_decimal(bytes, at, u64::from(fault.number()));
     let at = put_byte(bytes, at, b' ');
@@ -113,7 +117,7 @@ fn put_fault(bytes: &mut [u8], at: usize, fault: Fault) -> usize
     put_byte(bytes, at, b'\n')
 }
 
-// Makes bytes ready for a line after the first `len`, where they are not: of memory that is there, so that it cannot fail.
+// Makes bytes ready for a line after the first `len`, where they are not, of memory that is there: so `resize` cannot fail, and `unwrap` is proved.
 #[inline(always)]
 fn make_ready(bytes: &mut Vec<u8>, len: usize)
     requires { (len ≤ length bytes.old.items) × (len + MOST_LINE ≤ vec_capacity bytes.old) }
@@ -123,7 +127,7 @@ fn make_ready(bytes: &mut Vec<u8>, len: usize)
 {
     if bytes.len() - len < MOST_LINE {
         let end = bytes.len().saturating_add(STEP).min(bytes.capacity());
-        bytes.resize(end, 0).ok();
+        bytes.resize(end, 0).unwrap();
     }
 }
 

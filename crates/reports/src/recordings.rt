@@ -1,16 +1,15 @@
 // A recording, read command by command and handed to a board.
-ghost use Rattle.std.specs.Prelude.{◌≡◌, ℕ, ◌+◌, ◌*◌, ◌^◌, ◌<◌, ◌≤◌, true, length, Ok, Result};
+ghost use Rattle.std.specs.Prelude.{◌≡◌, ℕ, ◌+◌, ◌*◌, ◌^◌, ◌<◌, ◌≤◌, true, length, Result};
 ghost use Rattle.history.specs.declared.refusals.Refusal.{Refusal as ghost_refusal};
-ghost use Rattle.history.specs.Board.{State, Answer};
-ghost use Rattle.causality.specs.Boards.{Shows, travelling};
+ghost use Rattle.history.specs.Board.{Answer};
 ghost use Rattle.measures.specs.Worths.{load};
 ghost use Rattle.causality.specs.Calls.{Obeys, lent, has_room};
 ghost use Rattle.causality.specs.Handing.{handed};
-ghost use Rattle.reports.specs.Recordings.{closed, told_on, told};
-ghost use Rattle.reports.specs.Steps.{placed_at, refused_as, shown, Wrote};
-ghost use Rattle.reports.specs.declared.commands.Command.TheVariants.{End};
+ghost use Rattle.reports.specs.Recordings.{transcript};
+ghost use Rattle.reports.specs.Steps.{result_with_place, result_with_reason, answer_line, EndedOn, Wrote, WroteOn};
+ghost use Rattle.reports.specs.declared.lines.TheConstants.{TEXT_PER_BYTE};
 
-use super::commands::{Command, first_command};
+use super::commands::{Command, MAKING_SIZE, first_command};
 use super::faults::{Reason, RecordingFault};
 use super::lines::{MarkLine, Page, push_mark};
 use causality::{Board, Call, Clock, Event, MAX_MESSAGES, MAX_UNITS};
@@ -22,31 +21,39 @@ use measures::{Judge, JudgedMark, Measured, mark_judged};
 const MOST_CELLS: usize = (MAX_UNITS + MAX_MESSAGES) * MAX_UNITS;
 
 // The line of a mark of a unit.
-fn line_of_mark(unit: usize, told: JudgedMark<u64>) -> MarkLine
-    ensures { result ≡ record { unit = unit; clock = told.mark.clock; predecessors = told.mark.predecessors; states = told.mark.value; some = told.verdict.some; all = told.verdict.all } }
+fn line_of_mark(unit: usize, judged: JudgedMark<u64>) -> MarkLine
+    ensures { result ≡
+        record {
+          unit = unit;
+          clock = judged.mark.clock;
+          predecessors = judged.mark.predecessors;
+          states = judged.mark.value;
+          some = judged.verdict.some;
+          all = judged.verdict.all;
+        } }
 {
     MarkLine {
         unit,
-        clock: told.mark.clock,
-        predecessors: told.mark.predecessors,
-        states: told.mark.value,
-        some: told.verdict.some,
-        all: told.verdict.all,
+        clock: judged.mark.clock,
+        predecessors: judged.mark.predecessors,
+        states: judged.mark.value,
+        some: judged.verdict.some,
+        all: judged.verdict.all,
     }
 }
 
 // What was read or done, or why the recording breaks off at a byte of the input.
-fn placed<T>(told: Result<T, Reason>, place: usize) -> Result<T, RecordingFault>
-    ensures { result ≡ placed_at told place }
+fn with_place<T>(done: Result<T, Reason>, place: usize) -> Result<T, RecordingFault>
+    ensures { result ≡ result_with_place done place }
 {
-    told.map_err(|reason| RecordingFault { reason, place })
+    done.map_err(|reason| RecordingFault { reason, place })
 }
 
 // What a board answers, or its refusal as the reason why the recording breaks off.
-fn answered<T>(told: Result<T, Refusal>) -> Result<T, Reason>
-    ensures { result ≡ refused_as told }
+fn with_reason<T>(answer: Result<T, Refusal>) -> Result<T, Reason>
+    ensures { result ≡ result_with_reason answer }
 {
-    Ok(told?)
+    Ok(answer?)
 }
 
 // Hands one call to a board. Answers the line of a mark; the board's own `hand` has no verdict for it.
@@ -58,7 +65,7 @@ fn hand<J: Judge<Value = u64>>(
     posts: &mut [Post],
     call: Call,
 ) -> Result<Option<MarkLine>, Reason>
-    ensures { (answer : Result (Answer ℕ) ghost_refusal) × Obeys (load (J.Measure.meaning board.now.payload.measure)) board.now.units board.now.messages (handed call) (lent clocks.old flags.old values.old posts.old) (lent clocks.new flags.new values.new posts.new) answer × (result ≡ shown (J.Judge.some_of board.now.payload.measure) (J.Judge.all_of board.now.payload.measure) call.unit answer) }
+    ensures { (answer : Result (Answer ℕ) ghost_refusal) × Obeys (load (J.Measure.meaning board.now.payload.measure)) board.now.units board.now.messages (handed call) (lent clocks.old flags.old values.old posts.old) (lent clocks.new flags.new values.new posts.new) answer × (result ≡ answer_line (J.Judge.some_of board.now.payload.measure) (J.Judge.all_of board.now.payload.measure) call.unit answer) }
 {
     match call.event {
         Event::Send(message) => {
@@ -86,9 +93,11 @@ fn close<J: Judge<Value = u64>>(
     after: &[u8],
     place: usize,
 ) -> Result<usize, RecordingFault>
-    requires room { has_room board.now.units board.now.messages (lent clocks.now flags.now values.now posts.now) ≡ true }
+    requires room { has_room board.now.units board.now.messages
+        (lent clocks.now flags.now values.now posts.now) ≡ true }
     requires place { place + 1 < 2 ^ 64 }
-    ensures { (s : State ℕ) → Shows (J.Measure.meaning board.now.payload.measure).start board.now.units board.now.messages (lent clocks.now flags.now values.now posts.now) s → result ≡ closed (travelling s.posts board.now.messages) place (Ok (End, after.now)) }
+    ensures { EndedOn J.Measure.meaning board.now.payload.measure board.now.units board.now.messages
+        (lent clocks.now flags.now values.now posts.now) place after.now result }
 {
     if !after.is_empty() {
         return Err(RecordingFault {
@@ -97,11 +106,11 @@ fn close<J: Judge<Value = u64>>(
         });
     }
     let left = board.left(clocks, flags, values, posts);
-    placed(answered(left), place)
+    with_place(with_reason(left), place)
 }
 
 // Reads the commands from a byte of the input on, and hands the calls to a board, up to the end or to where the recording breaks off. A mark's line
-// is written: at most 84 bytes for a mark's 3, so 28 for each byte. Answers how many messages are left on their way.
+// is written, in the room that the page has for each byte. Answers how many messages are left on their way.
 fn follow<J: Judge<Value = u64>>(
     page: &mut Page,
     board: &Board<Measured<J>>,
@@ -112,21 +121,25 @@ fn follow<J: Judge<Value = u64>>(
     bytes: &[u8],
     from: usize,
 ) -> Result<usize, RecordingFault>
-    requires room { has_room board.now.units board.now.messages (lent clocks.old flags.old values.old posts.old) ≡ true }
+    requires room { has_room board.now.units board.now.messages
+        (lent clocks.old flags.old values.old posts.old) ≡ true }
     requires places { from + length bytes.now < 2 ^ 64 }
-    requires space { length page.old.text + 28 * length bytes.now ≤ page.old.room }
-    ensures tells { (s : State ℕ) → Shows (J.Measure.meaning board.now.payload.measure).start board.now.units board.now.messages (lent clocks.old flags.old values.old posts.old) s → Wrote page.old.text page.new.text (told_on (J.Measure.meaning board.now.payload.measure) (J.Judge.some_of board.now.payload.measure) (J.Judge.all_of board.now.payload.measure) board.now.units board.now.messages s from bytes.now) result }
-    ensures long { length page.new.text ≤ length page.old.text + 28 * length bytes.now }
+    requires space { length page.old.text + TEXT_PER_BYTE * length bytes.now ≤ page.old.room }
+    ensures tells { WroteOn J.Measure.meaning J.Judge.some_of J.Judge.all_of
+        board.now.payload.measure board.now.units board.now.messages
+        (lent clocks.old flags.old values.old posts.old)
+        from bytes.now page.old.text page.new.text result }
+    ensures long { length page.new.text ≤ length page.old.text + TEXT_PER_BYTE * length bytes.now }
     ensures room { page.old.room ≤ page.new.room }
 {
     let mut rest = bytes;
     loop {
         let place = from + (bytes.len() - rest.len());
-        let (command, after) = placed(first_command(rest), place)?;
+        let (command, after) = with_place(first_command(rest), place)?;
         match command {
             Command::Call(call) => {
-                let told = hand(board, clocks, flags, values, posts, call);
-                if let Some(line) = placed(told, place)? {
+                let answer = hand(board, clocks, flags, values, posts, call);
+                if let Some(line) = with_place(answer, place)? {
                     push_mark(page, line);
                 }
             }
@@ -144,19 +157,21 @@ fn follow<J: Judge<Value = u64>>(
 
 // Reads a recording from a byte of the input on: its first command makes the board, under the judge. Writes the lines of its marks, and answers
 // how many messages are left on their way.
-pub(crate) fn tell<J: Judge<Value = u64> + Drop>(
+pub(crate) fn transcribe<J: Judge<Value = u64> + Drop>(
     page: &mut Page,
     judge: J,
     bytes: &[u8],
     place: usize,
 ) -> Result<usize, RecordingFault>
     requires places { place + length bytes.now < 2 ^ 64 }
-    requires space { length page.old.text + 28 * length bytes.now ≤ page.old.room }
-    ensures tells { Wrote page.old.text page.new.text (told (J.Measure.meaning judge) (J.Judge.some_of judge) (J.Judge.all_of judge) place bytes.now) result }
-    ensures long { length page.new.text ≤ length page.old.text + 28 * length bytes.now }
+    requires space { length page.old.text + TEXT_PER_BYTE * length bytes.now ≤ page.old.room }
+    ensures tells { Wrote page.old.text page.new.text
+        (transcript (J.Measure.meaning judge) (J.Judge.some_of judge) (J.Judge.all_of judge)
+        place bytes.now) result }
+    ensures long { length page.new.text ≤ length page.old.text + TEXT_PER_BYTE * length bytes.now }
     ensures room { page.old.room ≤ page.new.room }
 {
-    let (command, rest) = placed(first_command(bytes), place)?;
+    let (command, rest) = with_place(first_command(bytes), place)?;
     let Command::Make(units, messages) = command else {
         let reason = Reason::NoBoard;
         return Err(RecordingFault { reason, place });
@@ -179,7 +194,7 @@ pub(crate) fn tell<J: Judge<Value = u64> + Drop>(
         &mut values,
         &mut posts,
     );
-    let board = placed(answered(made), place)?;
+    let board = with_place(with_reason(made), place)?;
     follow(
         page,
         &board,
@@ -188,6 +203,6 @@ pub(crate) fn tell<J: Judge<Value = u64> + Drop>(
         &mut values,
         &mut posts,
         rest,
-        place + 3,
+        place + MAKING_SIZE,
     )
 }

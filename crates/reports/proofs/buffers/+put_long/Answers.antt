@@ -1,5 +1,5 @@
 use Rattle.std.proofs.Common.{◌≡◌, ◌+◌, ◌/◌, ◌++◌, length, take, decimal, ap₂, ◌∙◌, arith, append_assoc}
-use Rattle.reports.proofs.Pieces.{decimal_four, length_four}
+use Rattle.reports.proofs.DecimalFacts.{decimal_four, length_four}
 use Rattle.reports.proofs.buffers.+put_long.Goals as goal
 use Rattle.reports.proofs.buffers.+put_long.Goals.{then-high-lt10000, else-high-lt10000}
 

@@ -1,6 +1,6 @@
 use Rattle.std.proofs.Common.{◌/◌, length, ap, arith, append_assoc}
 use Rattle.std.proofs.lemmas.Fmt.{decimal_digit}
-use Rattle.reports.proofs.Pieces.{decimal_four, length_four}
+use Rattle.reports.proofs.DecimalFacts.{decimal_four, length_four}
 use Rattle.reports.proofs.buffers.put_five.Goals as goal
 
 pub put_byte-at-requires : goal.put_byte-at-requires

@@ -1,7 +1,7 @@
 use Rattle.std.proofs.Common.{◌/◌, ◌%◌, ◌+◌, ◌-◌, ◌*◌, ◌≡◌, List, ℕ, ◌∷◌, ◌++◌, get_or, drop, arith, ap, ap₂, sym, ◌∙◌}
 use Rattle.text.specs.Hex.{digit_in_hex, hex, hex_word}
-use Rattle.reports.proofs.HexPairs.{digits_more}
-use Rattle.reports.proofs.Pieces.{put_from_end, take_shorter}
+use Rattle.reports.proofs.HexFacts.{put_from_end, digits_more}
+use Rattle.reports.proofs.PrefixFacts.{take_shorter}
 use Rattle.reports.proofs.buffers.put_hex.Goals as goal
 
 pub loop-byte-preserved : goal.loop-byte-preserved

@@ -1,5 +1,5 @@
 use Rattle.std.proofs.Common.{refl, append_assoc}
-use Rattle.reports.proofs.Pieces.{DECIMAL_PAIRS_at}
+use Rattle.reports.proofs.DecimalFacts.{DECIMAL_PAIRS_at}
 use Rattle.reports.proofs.buffers.put_pair.Goals as goal
 
 pub returns-clause-text : goal.returns-clause-text

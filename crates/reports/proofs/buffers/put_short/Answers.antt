@@ -1,5 +1,5 @@
 use Rattle.std.proofs.Common.{refl, arith, append_assoc}
-use Rattle.reports.proofs.Pieces.{decimal_pair, length_pair}
+use Rattle.reports.proofs.DecimalFacts.{decimal_pair, length_pair}
 use Rattle.reports.proofs.buffers.put_short.Goals as goal
 
 pub put_small-at-requires : goal.put_small-at-requires

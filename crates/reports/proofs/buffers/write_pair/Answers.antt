@@ -1,7 +1,7 @@
 use Rattle.std.proofs.Common.{◌≡◌, ◌+◌, ◌%◌, set, arith, length-set, refl}
 use Rattle.std.proofs.lemmas.List.{set_comm, drop-set}
 use Rattle.text.specs.Hex.{digit_in_hex}
-use Rattle.reports.proofs.HexPairs.{HEX_PAIRS_at}
+use Rattle.reports.proofs.HexFacts.{HEX_PAIRS_at}
 use Rattle.reports.proofs.buffers.write_pair.Goals as goal
 
 pub returns-clause-written : goal.returns-clause-written

@@ -7,13 +7,13 @@ use Rattle.causality.proofs.Leaving.{travelling_same}
 use Rattle.causality.specs.Calls.{lent}
 use Rattle.reports.proofs.recordings.close.Goals as goal
 
--- Of a memory that shows a state it is told how many messages are on their way in it.
-left_told : {V : Type 0} (start : V) (n k : ℕ) (memory : Memory V) (room : Bool) → room ≡ true → (s : State V) → Shows start n k memory s → left_answer k room memory.posts ≡ Ok (travelling s.posts k)
-left_told start n k memory room there s shows =
+-- A board whose memory shows a state answers how many messages are on their way in it.
+left_answer-shown : {V : Type 0} (start : V) (n k : ℕ) (memory : Memory V) (room : Bool) → room ≡ true → (s : State V) → Shows start n k memory s → left_answer k room memory.posts ≡ Ok (travelling s.posts k)
+left_answer-shown start n k memory room there s shows =
     ap (λ (r : Bool). left_answer k r memory.posts) there ∙ ap (λ (t : ℕ). Ok t) (travelling_same (λ p. slice_index_or memory.posts p Unsent) s.posts k shows.posts)
 
 pub returns : goal.returns
 returns g c s shows =
     let a = c.args in
-    let told = left_told (g.J.Measure.meaning a.board.now.payload.measure).start a.board.now.units a.board.now.messages (lent a.clocks.now a.flags.now a.values.now a.posts.now) _ c.requires.room s shows in
-    search (told, rules)
+    let left = left_answer-shown (g.J.Measure.meaning a.board.now.payload.measure).start a.board.now.units a.board.now.messages (lent a.clocks.now a.flags.now a.values.now a.posts.now) _ c.requires.room s shows in
+    search (left, rules)

@@ -2,7 +2,8 @@ use Rattle.std.proofs.Common.{◌≡◌, ℕ, ◌+◌, ◌-◌, ◌*◌, ◌≤�
 use Rattle.history.specs.Board.{State}
 use Rattle.causality.specs.Boards.{Shows}
 use Rattle.causality.specs.Calls.{lent, has_room}
-use Rattle.reports.proofs.Walking.{Reached}
+use Rattle.reports.specs.declared.lines.TheConstants.{TEXT_PER_BYTE}
+use Rattle.reports.proofs.StepFacts.{Reached}
 use Rattle.reports.proofs.recordings.follow.Given as goal
 
 -- the calls so far are handed over, their lines are written, and the rest is what they leave
@@ -18,7 +19,7 @@ invariant-loop-command g l =
       reached : (s : State ℕ) → Shows m.start n k (lent l.initial.clocks l.initial.flags l.initial.values l.initial.posts) s
           → Reached m some all n k s l.from l.bytes l.initial.page.text (lent l.clocks l.flags l.values l.posts) l.page.text (l.from + (length l.bytes - length l.rest)) l.rest;
       places : length l.rest ≤ length l.bytes;
-      long : length l.page.text + 28 * length l.rest ≤ length l.initial.page.text + 28 * length l.bytes;
+      long : length l.page.text + TEXT_PER_BYTE * length l.rest ≤ length l.initial.page.text + TEXT_PER_BYTE * length l.bytes;
       space : l.initial.page.room ≤ l.page.room;
     }
 

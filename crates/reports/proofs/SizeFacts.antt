@@ -1,4 +1,6 @@
--- What units are told does not depend on the size of the board.
+-- What units are answered does not depend on the size of the board.
+-- Both boards log the same events. A send or a receipt is answered by the events alone, and so is each part of a mark's answer: its clock counts
+-- marks, its set has the immediate predecessors, and its value joins the longest flows, listed by either board.
 use Rattle.std.proofs.Common.{◌≡◌, ℕ, suc, ◌⊎◌, List, [], ◌∷◌, map, length, Some, refl, sym, ap, ap₂, ◌∙◌, subst, inl, inr}
 use Rattle.std.specs.List.{slice_get}
 use Rattle.std.specs.Option.{option_map}
@@ -23,7 +25,7 @@ use Rattle.measures.specs.Laws.{Valued, MarksValued, join_over}
 use Rattle.measures.specs.Measures.{Meaning}
 use Rattle.measures.specs.Worths.{carrying, sized}
 
--- Two lists are equal that are as long as a third and hold the same at each of its places.
+-- Two lists are equal that are as long as a third and hold the same at each of its indexes.
 by_places : {A B : Type 0} (es : List B) (xs ys : List A) → length xs ≡ length es → length ys ≡ length es
     → ((i : ℕ) (e : B) → slice_get es i ≡ Some e → slice_get xs i ≡ slice_get ys i) → xs ≡ ys
 by_places [] [] [] p q each = refl
@@ -33,9 +35,9 @@ by_places (e ∷ es) [] ys p q each = cc
 by_places (e ∷ es) (x ∷ xs) [] p q each = cc
 by_places (e ∷ es) (x ∷ xs) (y ∷ ys) p q each = ap₂ ◌∷◌ (same_Some _ _ (each 0 e refl)) (by_places es xs ys (cc) (cc) (λ i. each (suc i)))
 
--- Marks are answered the same that are told the same three things.
+-- Marks whose three parts are the same are answered the same.
 same_marked : {V : Type 0} (c d p q : ℕ) (x y : V) → c ≡ d → p ≡ q → x ≡ y → marked c p x ≡ marked d q y
-same_marked c d p q x y e f g = cc
+same_marked c d p q x y same_clock same_predecessors same_value = cc
 
 module _ {V : Type 0} (m : Meaning V) (valued : MarksValued m) (limit n k n' k' : ℕ) (cs ds : List Call)
     (whole : accepted (carrying m n) (sized m n k limit) cs ≡ cs) (whole' : accepted (carrying m n') (sized m n' k' limit) ds ≡ ds) (same : SameByUnit cs ds) where
@@ -66,57 +68,57 @@ module _ {V : Type 0} (m : Meaning V) (valued : MarksValued m) (limit n k n' k' 
   events : ev ≡ ev'
   events = ap at logs
 
-  -- the answers that were told to a unit
-  abbrev told : ℕ → List (Answer V)
-  told u = map (λ r. r.answer) ((run M z cs).told u)
+  -- the answers to a unit
+  abbrev answers : ℕ → List (Answer V)
+  answers u = map (λ r. r.answer) ((run M z cs).told u)
 
-  abbrev told' : ℕ → List (Answer V)
-  told' u = map (λ r. r.answer) ((run M' z' ds).told u)
+  abbrev answers' : ℕ → List (Answer V)
+  answers' u = map (λ r. r.answer) ((run M' z' ds).told u)
 
   module _ (u i : ℕ) where
     -- What stands among the replies stands among the answers.
     answer_there : (replies : List (Reply V)) (a : Answer V) (stamp : ℕ → ℕ) → slice_get replies i ≡ Some (record { answer = a; stamp = stamp })
         → slice_get (map (λ (r : Reply V). r.answer) replies) i ≡ Some a
-    answer_there replies a stamp e = slice_get-map (λ (r : Reply V). r.answer) replies i ∙ ap (option_map (λ (r : Reply V). r.answer)) e
+    answer_there replies a stamp stands = slice_get-map (λ (r : Reply V). r.answer) replies i ∙ ap (option_map (λ (r : Reply V). r.answer)) stands
 
-    -- A mark is told the same on both boards.
-    marks_same : (l : ℕ) → ev u i ≡ Some (mark l) → slice_get (told u) i ≡ slice_get (told' u) i
-    marks_same l e =
-        let v : Valued m n k limit cs u i = valued n k limit cs u i l e in
-        let w : Valued m n' k' limit ds u i = valued n' k' limit ds u i l (subst (λ (x : Events). x u i ≡ Some (mark l)) events e) in
-        let a = v.answered in
-        let b = w.answered in
-        answer_there ((run M z cs).told u) (marked a.clock a.predecessors a.value) a.stamp a.told
-        ∙ ap Some (same_marked a.clock b.clock a.predecessors b.predecessors a.value b.value
-        (a.clock_is ∙ ap (λ (x : Events). marks x u (suc i)) events ∙ sym b.clock_is)
-        (same_members a.predecessors b.predecessors
-        (λ q h. (b.predecessors_are q).1 (subst (λ (x : Events). (j : ℕ) × Immediate x q j u i) events ((a.predecessors_are q).0 h)))
-        (λ q h. (a.predecessors_are q).1 (subst (λ (x : Events). (j : ℕ) × Immediate x q j u i) (sym events) ((b.predecessors_are q).0 h))))
-        (v.value_is ∙ ap (λ (x : Events). join_over m x v.flow v.flows) events
-        ∙ sym (w.value_any v.flow v.flows (subst (λ (x : Events). Exactly (Longest x u i) (v.flow ∷ v.flows)) events v.all))))
-        ∙ sym (answer_there ((run M' z' ds).told u) (marked b.clock b.predecessors b.value) b.stamp b.told)
+    -- A mark is answered the same on both boards.
+    marks_same : (l : ℕ) → ev u i ≡ Some (mark l) → slice_get (answers u) i ≡ slice_get (answers' u) i
+    marks_same l is_mark =
+        let on_first : Valued m n k limit cs u i = valued n k limit cs u i l is_mark in
+        let on_second : Valued m n' k' limit ds u i = valued n' k' limit ds u i l (subst (λ (x : Events). x u i ≡ Some (mark l)) events is_mark) in
+        let first = on_first.answered in
+        let second = on_second.answered in
+        answer_there ((run M z cs).told u) (marked first.clock first.predecessors first.value) first.stamp first.told
+        ∙ ap Some (same_marked first.clock second.clock first.predecessors second.predecessors first.value second.value
+        (first.clock_is ∙ ap (λ (x : Events). marks x u (suc i)) events ∙ sym second.clock_is)
+        (same_members first.predecessors second.predecessors
+        (λ q member. (second.predecessors_are q).1 (subst (λ (x : Events). (j : ℕ) × Immediate x q j u i) events ((first.predecessors_are q).0 member)))
+        (λ q member. (first.predecessors_are q).1 (subst (λ (x : Events). (j : ℕ) × Immediate x q j u i) (sym events) ((second.predecessors_are q).0 member))))
+        (on_first.value_is ∙ ap (λ (x : Events). join_over m x on_first.flow on_first.flows) events
+        ∙ sym (on_second.value_any on_first.flow on_first.flows (subst (λ (x : Events). Exactly (Longest x u i) (on_first.flow ∷ on_first.flows)) events on_first.all))))
+        ∙ sym (answer_there ((run M' z' ds).told u) (marked second.clock second.predecessors second.value) second.stamp second.told)
 
     -- So is a send or a receipt.
-    moved_same : (p : ℕ) → (ev u i ≡ Some (send p)) ⊎ (ev u i ≡ Some (receive p)) → slice_get (told u) i ≡ slice_get (told' u) i
-    moved_same p e =
-        let (s, f) = messages_answered V M z cs u i p e in
-        let (t, g) = messages_answered V M' z' ds u i p (subst (λ (x : Events). (x u i ≡ Some (send p)) ⊎ (x u i ≡ Some (receive p))) events e) in
-        answer_there ((run M z cs).told u) (message_told ev u i) s f
+    messages_same : (p : ℕ) → (ev u i ≡ Some (send p)) ⊎ (ev u i ≡ Some (receive p)) → slice_get (answers u) i ≡ slice_get (answers' u) i
+    messages_same p is_message =
+        let (stamp, said) = messages_answered V M z cs u i p is_message in
+        let (stamp', said') = messages_answered V M' z' ds u i p (subst (λ (x : Events). (x u i ≡ Some (send p)) ⊎ (x u i ≡ Some (receive p))) events is_message) in
+        answer_there ((run M z cs).told u) (message_told ev u i) stamp said
         ∙ ap (λ (x : Events). Some (message_told x u i)) events
-        ∙ sym (answer_there ((run M' z' ds).told u) (message_told ev' u i) t g)
+        ∙ sym (answer_there ((run M' z' ds).told u) (message_told ev' u i) stamp' said')
 
-    -- Each call is told the same on both boards.
-    told_same : (e : Event) → ev u i ≡ Some e → slice_get (told u) i ≡ slice_get (told' u) i
-    told_same (send p) e = moved_same p (inl e)
-    told_same (receive p) e = moved_same p (inr e)
-    told_same (mark l) e = marks_same l e
+    -- Each call is answered the same on both boards.
+    answer_same : (e : Event) → ev u i ≡ Some e → slice_get (answers u) i ≡ slice_get (answers' u) i
+    answer_same (send p) is = messages_same p (inl is)
+    answer_same (receive p) is = messages_same p (inr is)
+    answer_same (mark l) is = marks_same l is
 
   -- Each unit got the same answers.
   pub same_answers : (u : ℕ) → answers_of u cs (outcomes M z cs) ≡ answers_of u ds (outcomes M' z' ds)
   same_answers u =
       sym (outcomes_told V M z cs u)
-      ∙ by_places ((run M z cs).log u) (told u) (told' u)
+      ∙ by_places ((run M z cs).log u) (answers u) (answers' u)
       (length-map ((run M z cs).told u) (λ (r : Reply V). r.answer) ∙ (said_run M z cs).as_long u)
       (length-map ((run M' z' ds).told u) (λ (r : Reply V). r.answer) ∙ (said_run M' z' ds).as_long u ∙ ap (λ (l : Logs). length (l u)) (sym logs))
-      (told_same u)
+      (answer_same u)
       ∙ outcomes_told V M' z' ds u

@@ -1,35 +1,25 @@
--- The digits of a byte in the table of pairs, and of the bytes of a word.
-use Rattle.std.proofs.Common.{◌≡◌, ℕ, zero, suc, ◌+◌, ◌*◌, ◌/◌, ◌%◌, ◌^◌, ◌<◌, Bool, true, ◌==◌, ◌&&◌, ◌∷◌, ◌++◌, List, get_or, slice_index, arith, add-zero, zero-add, refl, ap, ap₂, sym, ◌∙◌, inl, inr, eqb-true}
+-- The hexadecimal digits of a byte in the table of pairs, and of the bytes of a word, which are put from its end on.
+use Rattle.std.proofs.Common.{◌≡◌, ℕ, zero, suc, ◌+◌, ◌*◌, ◌/◌, ◌%◌, ◌^◌, ◌<◌, ◌∷◌, ◌++◌, List, length, take, drop, get_or, slice_index, arith, add-zero, zero-add, refl, ap, ap₂, sym, ◌∙◌}
+use Rattle.std.proofs.Math.Seq.{take-add, take-append_seam}
 use Rattle.std.proofs.Math.Nat.{div-div-eq-div-mul, pow-suc}
-use Rattle.std.proofs.lemmas.Bool.{and_parts, cases_lt}
 use Rattle.std.specs.Int.{w64, byte_at, bytes_low_first, to_le_bytes}
 use Rattle.text.specs.Hex.{digit_in_hex, hex}
 use Rattle.text.proofs.HexText.{byte_is}
 use Rattle.reports.specs.declared.buffers.TheConstants.{HEX_PAIRS}
+use Rattle.reports.proofs.PairFacts.{pair_at}
 
--- whether the table has the digits of each byte below n
-abbrev same_below : ℕ → Bool
-same_below zero = true
-same_below (suc n) =
-    slice_index HEX_PAIRS (n * 2) == digit_in_hex (n / 16) && (slice_index HEX_PAIRS (n * 2 + 1) == digit_in_hex (n % 16) && same_below n)
-
-same_at : (n b : ℕ) → same_below n ≡ true → b < n
-    → (slice_index HEX_PAIRS (b * 2) ≡ digit_in_hex (b / 16)) × (slice_index HEX_PAIRS (b * 2 + 1) ≡ digit_in_hex (b % 16))
-same_at zero b same h = absurd (omega arith)
-same_at (suc n) b same h =
-    let first = and_parts (slice_index HEX_PAIRS (n * 2) == digit_in_hex (n / 16)) (slice_index HEX_PAIRS (n * 2 + 1) == digit_in_hex (n % 16) && same_below n) same in
-    let second = and_parts (slice_index HEX_PAIRS (n * 2 + 1) == digit_in_hex (n % 16)) (same_below n) first.1 in
-    elim (cases_lt b n) [
-      | inl below ↦ same_at n b second.1 below
-      | inr top ↦
-          let e : b ≡ n = omega arith in
-          rw e (eqb-true _ _ first.0, eqb-true _ _ second.0)
-    ]
+-- A piece that is written from its end stands after the text before it.
+pub put_from_end : (old new piece rest : List ℕ) (at : ℕ) → take at new ≡ take at old → drop at new ≡ piece ++ rest → take (at + length piece) new ≡ take at old ++ piece
+put_from_end old new piece rest at before written =
+    take-add at (length piece) new
+    ∙ ap (λ (t : List ℕ). t ++ take (length piece) (drop at new)) before
+    ∙ ap (λ (t : List ℕ). take at old ++ take (length piece) t) written
+    ∙ ap (λ (t : List ℕ). take at old ++ t) (take-append_seam piece rest)
 
 -- The table has the digits of each byte.
 pub HEX_PAIRS_at : (b : ℕ) → b < 256
     → (slice_index HEX_PAIRS (b * 2) ≡ digit_in_hex (b / 16)) × (slice_index HEX_PAIRS (b * 2 + 1) ≡ digit_in_hex (b % 16))
-HEX_PAIRS_at b h = same_at 256 b refl h
+HEX_PAIRS_at b small = pair_at HEX_PAIRS (λ n. digit_in_hex (n / 16)) (λ n. digit_in_hex (n % 16)) 256 b refl small
 
 -- The bytes of a word from byte i on have byte i + k at k.
 byte_of : (i k n w : ℕ) → k < n → get_or (bytes_low_first i n w) k 0 ≡ byte_at (i + k) w

@@ -1,4 +1,6 @@
--- What is told of the marks of a recording, of accepted fronts.
+-- The lines of the marks of a recording, where nothing is wrong with its front.
+-- The calls read are all accepted, so they are a run, and their lines are one for each mark. A list of calls is cut at a mark: the lines before it
+-- are as many as the marks before it, and what the mark's own line says is what the history was told of the mark that ends the first part.
 use Rattle.std.proofs.Common.{◌≡◌, ℕ, ◌+◌, Bool, List, [], ◌∷◌, ◌++◌, length, drop, Some, None, refl, sym, ap, ◌∙◌, subst, inl, inr}
 use Rattle.std.specs.List.{slice_get}
 use Rattle.history.specs.Events.{Events, mark}
@@ -11,21 +13,21 @@ use Rattle.measures.specs.Measures.{Meaning}
 use Rattle.measures.specs.Worths.{carrying, sized}
 use Rattle.reports.specs.declared.faults.Reason.{Reason}
 use Rattle.reports.specs.declared.lines.MarkLine.{MarkLine}
-use Rattle.reports.specs.Commands.{calls_in}
+use Rattle.reports.specs.Commands.{making_size, calls_in}
 use Rattle.reports.specs.Laws.{Tells, marks_among, size_in}
-use Rattle.reports.specs.Recordings.{Told, line, told_nothing, told_on, told}
-use Rattle.reports.specs.Reports.{front_fault, judge_in, some_in, all_in, recording_at, told_in}
-use Rattle.reports.proofs.Judging.{sets_tell}
-use Rattle.reports.proofs.Marks.{seam, with_mark, events_are, mark_there, answer_is}
-use Rattle.reports.proofs.Reading.{reads, AllTaken, reads_taken, reads_ok, reads_lines, told_cases}
-use Rattle.reports.proofs.Taking.{taken_parts, line_at, lines_at, lines_more, lines_append, lines_count}
+use Rattle.reports.specs.Recordings.{Transcript, line, empty_transcript, transcript_on, transcript}
+use Rattle.reports.specs.Reports.{front_fault, judge_in, some_in, all_in, recording_at, transcript_in}
+use Rattle.reports.proofs.VerdictFacts.{sets_tell}
+use Rattle.reports.proofs.LastMarkFacts.{seam, with_mark, events_are, mark_there, answer_is}
+use Rattle.reports.proofs.TranscriptFacts.{reads, AllTaken, reads_taken, reads_ok, reads_lines, transcript_cases}
+use Rattle.reports.proofs.LineFacts.{taken_parts, line_at, lines_at, lines_more, lines_append, lines_count}
 
--- What is true of a telling of nothing, and of what each board tells, is true of what a recording comes to.
-pub told_by : (m : Meaning ℕ) (some all : ℕ → Bool) (P : Told → Type 0) → ((reason : Reason) (place : ℕ) → P (told_nothing m some all reason place))
-    → ((n k place : ℕ) (bytes : List ℕ) → P (told_on m some all n k (new_state (carrying m n)) place bytes)) → (place : ℕ) (bytes : List ℕ) → P (told m some all place bytes)
-told_by m some all P none board place bytes = elim (told_cases m some all place bytes) [
+-- What is true of a transcript of nothing, and of those on each new board, is true of every recording's.
+pub transcript_by_cases : (m : Meaning ℕ) (some all : ℕ → Bool) (P : Transcript → Type 0) → ((reason : Reason) (place : ℕ) → P (empty_transcript m some all reason place))
+    → ((n k place : ℕ) (bytes : List ℕ) → P (transcript_on m some all n k (new_state (carrying m n)) place bytes)) → (place : ℕ) (bytes : List ℕ) → P (transcript m some all place bytes)
+transcript_by_cases m some all P none board place bytes = elim (transcript_cases m some all place bytes) [
   | inl (reason, e) ↦ subst P (sym e) (none reason place)
-  | inr (n, k, rest, _, _, e) ↦ subst P (sym e) (board n k (place + 3) rest)
+  | inr (n, k, rest, _, _, e) ↦ subst P (sym e) (board n k (place + making_size) rest)
 ]
 
 module _ (b : List ℕ) (sound : front_fault b ≡ None) (n k : ℕ) where
@@ -43,15 +45,15 @@ module _ (b : List ℕ) (sound : front_fault b ≡ None) (n k : ℕ) where
   lines_from h cs = lines_at (judge_in b) (some_in b) (all_in b) M z h cs
 
   -- A mark after accepted calls has a line, which tells of the longest flows that end there.
-  mark_told : (before : List Call) (u l : ℕ) → AllTaken M z new before → refusal M z (run M z before).state u (mark l) ≡ None
+  mark_line : (before : List Call) (u l : ℕ) → AllTaken M z new before → refusal M z (run M z before).state u (mark l) ≡ None
       → (line : MarkLine) × (line_at (judge_in b) (some_in b) (all_in b) M z (run M z before) (call u (mark l)) ≡ line ∷ []) × Tells b (events_in (with_mark before u l)) u (length (by_unit before u)) line
-  mark_told before u l t ok =
-      let (v, says) = sets_tell b sound n k most_marks (with_mark before u l) u (length (by_unit before u)) l (mark_there M z before u l t ok) in
+  mark_line before u l taken allowed =
+      let (v, says) = sets_tell b sound n k most_marks (with_mark before u l) u (length (by_unit before u)) l (mark_there M z before u l taken allowed) in
       let a = v.answered in
-      let told : MarkLine = record { unit = u; clock = a.clock; predecessors = a.predecessors; states = a.value; some = some_in b a.value; all = all_in b a.value } in (
-        told,
-        sym (ap (line (judge_in b) (some_in b) (all_in b) u) (answer_is M z before u l t ok (record { answer = marked a.clock a.predecessors a.value; stamp = a.stamp }) a.told)),
-        subst (λ (ev : Events). Tells b ev u (length (by_unit before u)) told) (events_are M z before u l t ok)
+      let own : MarkLine = record { unit = u; clock = a.clock; predecessors = a.predecessors; states = a.value; some = some_in b a.value; all = all_in b a.value } in (
+        own,
+        sym (ap (line (judge_in b) (some_in b) (all_in b) u) (answer_is M z before u l taken allowed (record { answer = marked a.clock a.predecessors a.value; stamp = a.stamp }) a.told)),
+        subst (λ (ev : Events). Tells b ev u (length (by_unit before u)) own) (events_are M z before u l taken allowed)
             (record { unit_is = refl; clock_is = a.clock_is; predecessors_are = a.predecessors_are; states_are = says.0; verdict = says.1 }),
       )
 
@@ -69,39 +71,39 @@ module _ (b : List ℕ) (sound : front_fault b ≡ None) (n k : ℕ) where
   line_on : (cs before after : List Call) (u l : ℕ) → reads M z (new_state M) cs ≡ before ++ call u (mark l) ∷ after
       → (line : MarkLine) × (slice_get (lines_from new cs) (marks_among before) ≡ Some line) × Tells b (events_in (with_mark before u l)) u (length (by_unit before u)) line
   line_on cs before after u l e =
-      let (t, rest) = taken_parts M z new before (call u (mark l) ∷ after) (subst (AllTaken M z new) e (reads_taken M z new cs)) in
-      let (told, is, tells) = mark_told before u l t rest.0 in
+      let (taken, rest) = taken_parts M z new before (call u (mark l) ∷ after) (subst (AllTaken M z new) e (reads_taken M z new cs)) in
+      let (own, is, tells) = mark_line before u l taken rest.0 in
       let later = lines_from (next M z (run M z before) (call u (mark l))) after in (
-        told,
+        own,
         ap (λ (ls : List MarkLine). slice_get ls (marks_among before))
             (reads_lines (judge_in b) (some_in b) (all_in b) M z new cs
             ∙ ap (lines_from new) e
-            ∙ lines_append (judge_in b) (some_in b) (all_in b) M z new before (call u (mark l) ∷ after) t
+            ∙ lines_append (judge_in b) (some_in b) (all_in b) M z new before (call u (mark l) ∷ after) taken
             ∙ ap (λ (ls : List MarkLine). lines_from new before ++ ls)
             (lines_more (judge_in b) (some_in b) (all_in b) M z (run M z before) (call u (mark l)) after rest.0 ∙ ap (λ (ls : List MarkLine). ls ++ later) is))
-            ∙ ap (slice_get (lines_from new before ++ told ∷ later)) (sym (lines_count (judge_in b) (some_in b) (all_in b) M z new before t))
-            ∙ seam (lines_from new before) told later,
+            ∙ ap (slice_get (lines_from new before ++ own ∷ later)) (sym (lines_count (judge_in b) (some_in b) (all_in b) M z new before taken))
+            ∙ seam (lines_from new before) own later,
         tells,
       )
 
 module _ (b : List ℕ) (sound : front_fault b ≡ None) where
   -- The calls read of a recording are what a real run could do.
-  pub run_told : Run (size_in b) (told_in b).calls
-  run_told =
-      told_by (judge_in b) (some_in b) (all_in b) (λ t. Run (sized (judge_in b) t.units t.messages most_marks) t.calls) (λ reason place. tt)
+  pub transcript_run : Run (size_in b) (transcript_in b).calls
+  transcript_run =
+      transcript_by_cases (judge_in b) (some_in b) (all_in b) (λ t. Run (sized (judge_in b) t.units t.messages most_marks) t.calls) (λ reason place. tt)
       (λ n k place bytes. run_on b sound n k (calls_in bytes)) (recording_at b) (drop (recording_at b) b)
 
   -- There is a line for each mark read, and no other.
-  pub lines_told : length (told_in b).lines ≡ marks_among (told_in b).calls
-  lines_told =
-      told_by (judge_in b) (some_in b) (all_in b) (λ t. length t.lines ≡ marks_among t.calls) (λ reason place. refl)
+  pub transcript_lines : length (transcript_in b).lines ≡ marks_among (transcript_in b).calls
+  transcript_lines =
+      transcript_by_cases (judge_in b) (some_in b) (all_in b) (λ t. length t.lines ≡ marks_among t.calls) (λ reason place. refl)
       (λ n k place bytes. lines_on b sound n k (calls_in bytes)) (recording_at b) (drop (recording_at b) b)
 
   -- And it tells of the longest flows of the calls read up to that mark.
-  pub line_told : (before after : List Call) (u l : ℕ) → (told_in b).calls ≡ before ++ call u (mark l) ∷ after
-      → (line : MarkLine) × (slice_get (told_in b).lines (marks_among before) ≡ Some line) × Tells b (events_in (before ++ call u (mark l) ∷ [])) u (length (by_unit before u)) line
-  line_told =
-      told_by (judge_in b) (some_in b) (all_in b)
+  pub transcript_line : (before after : List Call) (u l : ℕ) → (transcript_in b).calls ≡ before ++ call u (mark l) ∷ after
+      → (line : MarkLine) × (slice_get (transcript_in b).lines (marks_among before) ≡ Some line) × Tells b (events_in (before ++ call u (mark l) ∷ [])) u (length (by_unit before u)) line
+  transcript_line =
+      transcript_by_cases (judge_in b) (some_in b) (all_in b)
       (λ t. (before after : List Call) (u l : ℕ) → t.calls ≡ before ++ call u (mark l) ∷ after
       → (line : MarkLine) × (slice_get t.lines (marks_among before) ≡ Some line) × Tells b (events_in (before ++ call u (mark l) ∷ [])) u (length (by_unit before u)) line)
       (λ reason place before after u l e. absurd (none before u l after e))

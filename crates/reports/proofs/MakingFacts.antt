@@ -5,19 +5,19 @@ use Rattle.grid.specs.declared.Grid.{Grid}
 use Rattle.history.specs.declared.messages.Post.{Post}
 use Rattle.history.specs.declared.refusals.Refusal.{Refusal}
 use Rattle.history.specs.Limits.{most_units, most_messages}
-use Rattle.history.specs.Board.{State, new_state}
-use Rattle.causality.specs.Boards.{Memory, Shows, fits_board, make_refusal}
+use Rattle.history.specs.Board.{new_state}
+use Rattle.causality.specs.Boards.{Memory, fits_board, make_refusal}
 use Rattle.causality.specs.Calls.{lent, has_room}
 use Rattle.measures.specs.Measures.{Meaning}
 use Rattle.measures.specs.Worths.{carrying}
 use Rattle.reports.specs.declared.commands.Command.TheVariants as commands
 use Rattle.reports.specs.declared.faults.RecordingFault.{RecordingFault}
 use Rattle.reports.specs.declared.faults.Reason.TheVariants.{Refused}
-use Rattle.reports.specs.Commands.{first_command}
-use Rattle.reports.specs.Faults.{broken}
+use Rattle.reports.specs.Commands.{making_size, first_command}
+use Rattle.reports.specs.Faults.{fault_at}
 use Rattle.reports.specs.Lines.{mark_lines}
-use Rattle.reports.specs.Recordings.{Told, told_of_board, told_on, told_from, told}
-use Rattle.reports.specs.Steps.{Wrote}
+use Rattle.reports.specs.Recordings.{Transcript, transcript_of_board, transcript_on, transcript_from, transcript}
+use Rattle.reports.specs.Steps.{Wrote, WroteOn}
 
 and_false : (b : Bool) → (b && false) ≡ false
 and_false true = refl
@@ -48,26 +48,27 @@ module _ (n k : ℕ) (few_messages : k ≤ most_messages) where
       go false e = rw (e, and_false (leb 1 n)) refl
 
 module _ (m : Meaning ℕ) (some all : ℕ → Bool) (place : ℕ) (bytes rest : List ℕ) (n k : ℕ) (first : first_command bytes ≡ Ok (commands.Make n k, rest)) where
-  by_board : (o : Option Refusal) → make_refusal n k true ≡ o → told m some all place bytes ≡ told_of_board m some all n k place rest o
-  by_board o is = ap (told_from m some all place) first ∙ ap (told_of_board m some all n k place rest) is
+  -- Its transcript is by the making.
+  pub transcript-making : (o : Option Refusal) → make_refusal n k true ≡ o → transcript m some all place bytes ≡ transcript_of_board m some all n k place rest o
+  transcript-making o is = ap (transcript_from m some all place) first ∙ ap (transcript_of_board m some all n k place rest) is
 
   -- A board that is not made breaks the recording off.
-  pub board_refused : (e : Refusal) → make_refusal n k true ≡ Some e → (old : List ℕ) (result : Result ℕ RecordingFault) → result ≡ Err (broken (Refused e) place)
-      → Wrote old old (told m some all place bytes) result
+  pub board_refused : (e : Refusal) → make_refusal n k true ≡ Some e → (old : List ℕ) (result : Result ℕ RecordingFault) → result ≡ Err (fault_at (Refused e) place)
+      → Wrote old old (transcript m some all place bytes) result
   board_refused e is old result so =
-      let nothing = by_board (Some e) is in
-      (sym (append-nil old) ∙ ap (λ (t : Told). old ++ mark_lines t.lines) (sym nothing), so ∙ ap (λ (t : Told). t.end) (sym nothing))
+      let nothing = transcript-making (Some e) is in
+      (sym (append-nil old) ∙ ap (λ (t : Transcript). old ++ mark_lines t.lines) (sym nothing), so ∙ ap (λ (t : Transcript). t.end) (sym nothing))
 
-  -- On one that is made the rest is told.
-  pub board_made : make_refusal n k true ≡ None → (old new : List ℕ) (result : Result ℕ RecordingFault) → Wrote old new (told_on m some all n k (new_state (carrying m n)) (place + 3) rest) result
-      → Wrote old new (told m some all place bytes) result
-  board_made is old new result tells = subst (λ (t : Told). Wrote old new t result) (sym (by_board None is)) tells
+  -- A board that is made is handed the rest.
+  pub board_made : make_refusal n k true ≡ None → (old new : List ℕ) (result : Result ℕ RecordingFault) → Wrote old new (transcript_on m some all n k (new_state (carrying m n)) (place + making_size) rest) result
+      → Wrote old new (transcript m some all place bytes) result
+  board_made is old new result tells = subst (λ (t : Transcript). Wrote old new t result) (sym (transcript-making None is)) tells
 
--- What is told on a board is told by the judge, and of the size, that it was made with.
+-- What was written on a board is written by the judge, and of the size, that it was made with.
 pub made_with : {J : Type 0} (meaning : J → Meaning ℕ) (some all : J → ℕ → Bool) (judge measure : J) → measure ≡ judge → (n units : ℕ) → units ≡ n → (k messages : ℕ) → messages ≡ k
     → (memory : Memory ℕ) (old new : List ℕ) (place : ℕ) (rest : List ℕ) (result : Result ℕ RecordingFault)
-    → ((s : State ℕ) → Shows (meaning measure).start units messages memory s → Wrote old new (told_on (meaning measure) (some measure) (all measure) units messages s place rest) result)
-    → (s : State ℕ) → Shows (meaning judge).start n k memory s → Wrote old new (told_on (meaning judge) (some judge) (all judge) n k s place rest) result
-made_with {J} meaning some all judge measure same n units un k messages mk memory old new place rest result tells s =
-    let Owed : J → ℕ → ℕ → Type 0 = λ j u p. Shows (meaning j).start u p memory s → Wrote old new (told_on (meaning j) (some j) (all j) u p s place rest) result in
-    subst (λ (j : J). Owed j n k) same (subst (λ (u : ℕ). Owed measure u k) un (subst (λ (p : ℕ). Owed measure units p) mk (tells s)))
+    → WroteOn meaning some all measure units messages memory place rest old new result → WroteOn meaning some all judge n k memory place rest old new result
+made_with {J} meaning some all judge measure same n units un k messages mk memory old new place rest result wrote =
+    subst (λ (j : J). WroteOn meaning some all j n k memory place rest old new result) same
+    (subst (λ (u : ℕ). WroteOn meaning some all measure u k memory place rest old new result) un
+    (subst (λ (p : ℕ). WroteOn meaning some all measure units p memory place rest old new result) mk wrote))

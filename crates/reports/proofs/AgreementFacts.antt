@@ -1,8 +1,8 @@
--- Two recordings with the same accepted calls unit by unit tell the same of each unit.
+-- Two recordings with the same accepted calls unit by unit have the same lines of each unit.
+-- A unit's lines are those of the answers to its calls, and the answers do not depend on the board's size or on the order among units (SizeFacts).
 use Rattle.std.proofs.Common.{◌≡◌, ℕ, ◌==◌, Bool, if◌then◌else◌, List, [], ◌∷◌, ◌++◌, drop, None, sym, refl, ap, ◌∙◌, subst, inl, inr}
 use Rattle.std.proofs.Math.Path.{fun_ext}
 use Rattle.std.proofs.lemmas.Bool.{cases_eq, eq-eqb, ne_eqb}
-use Rattle.bitset.specs.Sets.{meets, within}
 use Rattle.history.specs.Board.{History, Answer, own_clock, marked, new_history, acted, answer_to, outcomes_from, outcomes, accepted}
 use Rattle.history.specs.Counting.{HowMany}
 use Rattle.history.specs.Events.{Logs, at, Sent, Received}
@@ -12,22 +12,21 @@ use Rattle.history.specs.Runs.{Size, Call, SameByUnit}
 use Rattle.history.proofs.Lists.{how_many_one}
 use Rattle.history.proofs.Runs.{by_calls}
 use Rattle.history.specs.Limits.{most_marks}
-use Rattle.measures.specs.Automata.{state_sets}
-use Rattle.measures.specs.Formats.{padded}
 use Rattle.measures.specs.Laws.{MarksValued}
 use Rattle.measures.specs.Measures.{Meaning}
-use Rattle.measures.specs.Relabellings.{relabelled}
 use Rattle.measures.specs.Worths.{carrying, sized}
 use Rattle.reports.specs.declared.lines.MarkLine.{MarkLine}
 use Rattle.reports.specs.Commands.{calls_in}
 use Rattle.reports.specs.Laws.{SameFront, lines_of, ReportsAgree}
-use Rattle.reports.specs.Recordings.{Told, line, lines, told}
-use Rattle.reports.specs.Reports.{front_fault, recording_at, judge_in, some_in, all_in, told_in}
-use Rattle.reports.proofs.Judging.{sets_tell}
-use Rattle.reports.proofs.Leaving.{left_counted}
-use Rattle.reports.proofs.Reading.{reads, reads_ok}
-use Rattle.reports.proofs.Sizes.{same_answers}
-use Rattle.reports.proofs.Telling.{told_by}
+use Rattle.reports.specs.Recordings.{Transcript, line, lines, transcript}
+use Rattle.reports.specs.Reports.{front_fault, recording_at, judge_in, some_in, all_in, transcript_in}
+use Rattle.reports.proofs.VerdictFacts.{sets_tell}
+use Rattle.reports.proofs.EndFacts.{left_counted}
+use Rattle.reports.proofs.ReportFacts.{transcript_in-is}
+use Rattle.reports.proofs.SameFrontFacts.{SameJudge, front_judge}
+use Rattle.reports.proofs.TranscriptFacts.{reads, reads_ok}
+use Rattle.reports.proofs.SizeFacts.{same_answers}
+use Rattle.reports.proofs.MarkLineFacts.{transcript_by_cases}
 
 module _ (m : Meaning ℕ) (some all : ℕ → Bool) where
   module _ (u : ℕ) where
@@ -39,10 +38,10 @@ module _ (m : Meaning ℕ) (some all : ℕ → Bool) where
     -- one answer more, of any unit
     one_line : (v : ℕ) (a : Answer ℕ) (ls : List MarkLine) (answers : List (Answer ℕ)) → lines_of u ls ≡ lines_by answers
         → lines_of u (line m some all v a ++ ls) ≡ lines_by (if u == v then a ∷ answers else answers)
-    one_line v (own_clock clock) ls answers h = elim (cases_eq u v) [ inl e ↦ rw (eq-eqb u v e) h | inr ne ↦ rw (ne_eqb u v ne) h ]
-    one_line v (marked clock predecessors x) ls answers h = elim (cases_eq u v) [
-      | inl e ↦ rw (eq-eqb u v e) (rw (← e) (ap (λ (l : List MarkLine). record { unit = u; clock = clock; predecessors = predecessors; states = x; some = some x; all = all x } ∷ l) h))
-      | inr ne ↦ rw (ne_eqb u v ne) h
+    one_line v (own_clock clock) ls answers others = elim (cases_eq u v) [ inl e ↦ rw (eq-eqb u v e) others | inr ne ↦ rw (ne_eqb u v ne) others ]
+    one_line v (marked clock predecessors x) ls answers others = elim (cases_eq u v) [
+      | inl e ↦ rw (eq-eqb u v e) (rw (← e) (ap (λ (l : List MarkLine). record { unit = u; clock = clock; predecessors = predecessors; states = x; some = some x; all = all x } ∷ l) others))
+      | inr ne ↦ rw (ne_eqb u v ne) others
     ]
 
     module _ (M : Payload ℕ) (z : Size) where
@@ -55,48 +54,35 @@ module _ (m : Meaning ℕ) (some all : ℕ → Bool) where
           (λ h c cs e ih. rw (e, e) (one_line c.unit (answer_to M z c.unit c.act (h.state.rows c.unit) ((acted M z h.state c.unit c.act).rows c.unit)) _ _ ih))
           (λ h c cs x e same. rw e refl)
 
-  -- The calls of a telling are all accepted by some board, and its lines are those of the answers to them.
-  abbrev OnBoard : Told → Type 0
+  -- The calls of a transcript are all accepted by some board, and its lines are those of the answers to them.
+  abbrev OnBoard : Transcript → Type 0
   OnBoard t =
       (n k : ℕ) × (accepted (carrying m n) (sized m n k most_marks) t.calls ≡ t.calls)
       × ((u : ℕ) → lines_of u t.lines ≡ lines_by u (answers_of u t.calls (outcomes (carrying m n) (sized m n k most_marks) t.calls)))
 
-  -- So it is of each telling.
-  on_board : (place : ℕ) (bytes : List ℕ) → OnBoard (told m some all place bytes)
-  on_board = told_by m some all OnBoard (λ reason place. (0, 0, refl, λ u. refl)) (λ n k place bytes. (
+  -- So it is of each transcript.
+  on_board : (place : ℕ) (bytes : List ℕ) → OnBoard (transcript m some all place bytes)
+  on_board = transcript_by_cases m some all OnBoard (λ reason place. (0, 0, refl, λ u. refl)) (λ n k place bytes. (
     n,
     k,
     reads_ok (carrying m n) (sized m n k most_marks) (new_history (carrying m n)) (calls_in bytes),
     λ u. lines_answered u (carrying m n) (sized m n k most_marks) (new_history (carrying m n)) (calls_in bytes),
   ))
 
-  -- Tellings of calls that are the same unit by unit have the same lines of each unit.
-  same_lines : MarksValued m → (s t : Told) → OnBoard s → OnBoard t → SameByUnit s.calls t.calls → (u : ℕ) → lines_of u s.lines ≡ lines_of u t.lines
+  -- Transcripts of calls that are the same unit by unit have the same lines of each unit.
+  same_lines : MarksValued m → (s t : Transcript) → OnBoard s → OnBoard t → SameByUnit s.calls t.calls → (u : ℕ) → lines_of u s.lines ≡ lines_of u t.lines
   same_lines valued s t (n, k, p, f) (n', k', q, g) same u =
       f u ∙ ap (lines_by u) (same_answers m valued most_marks n k n' k' s.calls t.calls p q same u) ∙ sym (g u)
 
--- a telling by the parts of a pattern and of a relabelling
-told_of_parts : (states labels start finals : ℕ) (table : List ℕ) (count : ℕ) (entries : List ℕ) → ℕ → List ℕ → Told
-told_of_parts states labels start finals table count entries place bytes =
-    told (relabelled (padded 64 entries) count (state_sets states labels start (padded 4096 table))) (λ set. meets set finals) (λ set. within set finals) place bytes
-
--- equal parts, equal tellings
-same_parts : {states states' labels labels' start start' finals finals' count count' : ℕ} {table table' entries entries' : List ℕ}
-    → states ≡ states' → labels ≡ labels' → start ≡ start' → finals ≡ finals' → table ≡ table' → count ≡ count' → entries ≡ entries' → (place : ℕ) (bytes : List ℕ)
-    → told_of_parts states labels start finals table count entries place bytes ≡ told_of_parts states' labels' start' finals' table' count' entries' place bytes
-same_parts a b c d e f g place bytes = cc
-
--- Inputs with the same pattern and the same relabelling are told alike.
-pub told_alike : (b d : List ℕ) → SameFront b d → (place : ℕ) (bytes : List ℕ)
-    → told (judge_in b) (some_in b) (all_in b) place bytes ≡ told (judge_in d) (some_in d) (all_in d) place bytes
-unfolding told_of_parts
-told_alike b d same place bytes = same_parts same.states same.labels same.start same.finals same.table same.count same.entries place bytes
+-- What an input comes to is what its recording does under the judge of another, if that is the same.
+judged_by : (b d : List ℕ) → SameJudge b d → transcript (judge_in d) (some_in d) (all_in d) (recording_at b) (drop (recording_at b) b) ≡ transcript_in b
+judged_by b d same = transcript_in-is b _ _ _ (sym same.meaning) (sym same.some) (sym same.all) (recording_at b) _ refl refl
 
 -- Reports on recordings with the same pattern and relabelling and the same accepted calls unit by unit agree, whatever the sizes of their boards.
-pub reports_agree : (b d : List ℕ) → front_fault d ≡ None → SameFront b d → SameByUnit (told_in b).calls (told_in d).calls → ReportsAgree b d
+pub reports_agree : (b d : List ℕ) → front_fault d ≡ None → SameFront b d → SameByUnit (transcript_in b).calls (transcript_in d).calls → ReportsAgree b d
 reports_agree b d sound front same = record {
-  lines = same_lines (judge_in d) (some_in d) (all_in d) (λ n k limit cs u i l e. (sets_tell d sound n k limit cs u i l e).0) (told_in b) (told_in d)
-      (subst (OnBoard (judge_in d) (some_in d) (all_in d)) (sym (told_alike b d front (recording_at b) (drop (recording_at b) b)))
+  lines = same_lines (judge_in d) (some_in d) (all_in d) (λ n k limit cs u i l e. (sets_tell d sound n k limit cs u i l e).0) (transcript_in b) (transcript_in d)
+      (subst (OnBoard (judge_in d) (some_in d) (all_in d)) (judged_by b d (front_judge b d front))
       (on_board (judge_in d) (some_in d) (all_in d) (recording_at b) (drop (recording_at b) b)))
       (on_board (judge_in d) (some_in d) (all_in d) (recording_at d) (drop (recording_at d) d)) same;
   left = λ x y p q. how_many_one x y

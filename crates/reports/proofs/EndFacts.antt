@@ -1,7 +1,8 @@
--- How many messages are left on their way where a recording ends well.
+-- A recording that ends well: how many messages are left on their way, that all of its calls are read, and that an end stands after them.
+-- Answers that give a good end were all accepted, and the bytes after the calls are the end alone. So the state at the end is that of the run of all
+-- calls; it counts the messages whose state is on the way, which in a run are those sent and not received.
 use Rattle.std.proofs.Common.{◌≡◌, ◌↔◌, ℕ, zero, suc, ◌+◌, ◌*◌, ◌<◌, Bool, true, false, if◌then◌else◌, ◌==◌, List, [], ◌∷◌, length, drop, Some, Ok, Err, Result, sym, refl, ap, ◌∙◌, subst, inl, inr, ⊎_elim, arith}
 use Rattle.std.specs.List.{slice_get}
-use Rattle.std.proofs.lemmas.List.{drop-drop}
 use Rattle.std.proofs.Math.Path.{fun_ext}
 use Rattle.history.specs.declared.messages.Post.{Post}
 use Rattle.history.specs.declared.refusals.Refusal.{Refusal}
@@ -22,12 +23,13 @@ use Rattle.reports.specs.declared.commands.Command.{Command}
 use Rattle.reports.specs.declared.commands.Command.TheVariants as commands
 use Rattle.reports.specs.declared.faults.Reason.{Reason}
 use Rattle.reports.specs.declared.faults.RecordingFault.{RecordingFault}
-use Rattle.reports.specs.Commands.{first_command, calls_in}
-use Rattle.reports.specs.Recordings.{Told, closed, ending, before_refusal, told_on, told}
-use Rattle.reports.specs.Reports.{recording_at, judge_in, some_in, all_in, told_in}
+use Rattle.reports.specs.Commands.{making_size, call_size, first_command, calls_in}
+use Rattle.reports.specs.Recordings.{Transcript, end_after_calls, ending, calls_before_refusal, transcript_on, transcript}
+use Rattle.reports.specs.Reports.{recording_at, judge_in, some_in, all_in, transcript_in}
 use Rattle.reports.specs.Laws.{AfterCalls}
-use Rattle.reports.proofs.FirstCommands.{begins}
-use Rattle.reports.proofs.Reading.{reads, reads_ok, last_run, told_cases}
+use Rattle.reports.proofs.CallFacts.{after_making}
+use Rattle.reports.proofs.FirstCommandFacts.{begins}
+use Rattle.reports.proofs.TranscriptFacts.{reads, reads_ok, last_run, transcript_cases}
 
 module _ (posts : ℕ → Post) where
   -- a message below k that is on its way
@@ -89,91 +91,82 @@ module _ {V : Type 0} (M : Payload V) (z : Size) where
   -- Calls after which a recording ends well are read whole, and it ends as what closes it.
   ending_ok : (cs : List Call) (s : State V) (place left : ℕ) (closing : Result ℕ RecordingFault) → ending place (outcomes_from M z s cs) closing ≡ Ok left
       → (closing ≡ Ok left) × (reads M z s cs ≡ cs)
-  ending_ok [] s place left closing e = (e, refl)
-  ending_ok (c ∷ cs) s place left closing e = one (outcome M z s c) (outcomes_from M z (next M z s c) cs) (ending_ok cs (next M z s c) (place + 3) left closing) e
+  ending_ok [] s place left closing ends = (ends, refl)
+  ending_ok (c ∷ cs) s place left closing ends = one (outcome M z s c) (outcomes_from M z (next M z s c) cs) (ending_ok cs (next M z s c) (place + call_size) left closing) ends
     where
       one : (r : Result (Answer V) Refusal) (xs : List (Result (Answer V) Refusal))
-          → (ending (place + 3) xs closing ≡ Ok left → (closing ≡ Ok left) × (before_refusal cs xs ≡ cs)) → ending place (r ∷ xs) closing ≡ Ok left
-          → (closing ≡ Ok left) × (before_refusal (c ∷ cs) (r ∷ xs) ≡ c ∷ cs)
-      one (Ok a) xs ih e = let (p, q) = ih e in (p, ap (λ (l : List Call). c ∷ l) q)
-      one (Err x) xs ih e = cc
+          → (ending (place + call_size) xs closing ≡ Ok left → (closing ≡ Ok left) × (calls_before_refusal cs xs ≡ cs)) → ending place (r ∷ xs) closing ≡ Ok left
+          → (closing ≡ Ok left) × (calls_before_refusal (c ∷ cs) (r ∷ xs) ≡ c ∷ cs)
+      one (Ok a) xs later ends = let (closes, whole) = later ends in (closes, ap (λ (l : List Call). c ∷ l) whole)
+      one (Err x) xs later ends = cc
 
--- What closes a recording well leaves what is left.
-closed_ok : (left place : ℕ) (r : Result (Command × List ℕ) Reason) (x : ℕ) → closed left place r ≡ Ok x → left ≡ x
-closed_ok left place (Err reason) x e = cc
-closed_ok left place (Ok (commands.End, [])) x e = cc
-closed_ok left place (Ok (commands.End, y ∷ rest)) x e = cc
-closed_ok left place (Ok (commands.Make n k, rest)) x e = cc
-closed_ok left place (Ok (commands.Call c, rest)) x e = cc
-
--- And it is an end, with nothing after it.
-closed_end : (left place : ℕ) (r : Result (Command × List ℕ) Reason) (x : ℕ) → closed left place r ≡ Ok x → r ≡ Ok (commands.End, [])
-closed_end left place (Err reason) x e = cc
-closed_end left place (Ok (commands.End, [])) x e = refl
-closed_end left place (Ok (commands.End, y ∷ rest)) x e = cc
-closed_end left place (Ok (commands.Make n k, rest)) x e = cc
-closed_end left place (Ok (commands.Call c, rest)) x e = cc
+-- What ends a recording well is an end with nothing after it, and leaves what is left.
+end_after_calls-ok : (left place : ℕ) (r : Result (Command × List ℕ) Reason) (x : ℕ) → end_after_calls left place r ≡ Ok x
+    → (r ≡ Ok (commands.End, [])) × (left ≡ x)
+end_after_calls-ok left place (Err reason) x ends = cc
+end_after_calls-ok left place (Ok (commands.End, [])) x ends = (refl, cc)
+end_after_calls-ok left place (Ok (commands.End, y ∷ rest)) x ends = cc
+end_after_calls-ok left place (Ok (commands.Make n k, rest)) x ends = cc
+end_after_calls-ok left place (Ok (commands.Call c, rest)) x ends = cc
 
 module _ (m : Meaning ℕ) (some all : ℕ → Bool) where
   -- Where a recording on a board ends well, it leaves the messages on their way after the calls read.
-  left_on : (n k place : ℕ) (bytes : List ℕ) (x : ℕ) → (told_on m some all n k (new_state (carrying m n)) place bytes).end ≡ Ok x
-      → x ≡ travelling (run (carrying m n) (sized m n k most_marks) (told_on m some all n k (new_state (carrying m n)) place bytes).calls).state.posts k
-  left_on n k place bytes x e =
+  left_on : (n k place : ℕ) (bytes : List ℕ) (x : ℕ) → (transcript_on m some all n k (new_state (carrying m n)) place bytes).end ≡ Ok x
+      → x ≡ travelling (run (carrying m n) (sized m n k most_marks) (transcript_on m some all n k (new_state (carrying m n)) place bytes).calls).state.posts k
+  left_on n k place bytes x ends =
       let M = carrying m n in
       let z = sized m n k most_marks in
       let cs = calls_in bytes in
-      let after = first_command (drop (3 * length cs) bytes) in
-      let (p, q) = ending_ok M z cs (new_state M) place x (closed (travelling (state_from M z (new_state M) cs).posts k) (place + 3 * length cs) after) e in
-      sym (closed_ok _ _ _ x p)
+      let after = first_command (drop (call_size * length cs) bytes) in
+      let (closes, whole) = ending_ok M z cs (new_state M) place x (end_after_calls (travelling (state_from M z (new_state M) cs).posts k) (place + call_size * length cs) after) ends in
+      sym (end_after_calls-ok _ _ _ x closes).1
       ∙ ap (λ (s : State ℕ). travelling s.posts k) (last_run M z cs)
-      ∙ ap (λ (l : List Call). travelling (run M z l).state.posts k) (sym q)
+      ∙ ap (λ (l : List Call). travelling (run M z l).state.posts k) (sym whole)
 
   -- Where any recording ends well, all of its calls are read.
-  told_whole : (place : ℕ) (bytes : List ℕ) (left : ℕ) → (told m some all place bytes).end ≡ Ok left → (told m some all place bytes).calls ≡ calls_in (drop 3 bytes)
-  told_whole place bytes = elim (told_cases m some all place bytes) [
-    | inl (reason, e) ↦ subst Whole (sym e) (λ left p. cc)
-    | inr (n, k, rest, c, r, e) ↦ subst Whole (sym e) (λ left p.
-        let (none, x, same, whatever) = begins bytes _ c in
-        (ending_ok (carrying m n) (sized m n k most_marks) (calls_in rest) (new_state (carrying m n)) (place + 3) left _ p).1 ∙ ap (λ (ys : List ℕ). calls_in (drop 3 ys)) (sym same))
+  transcript_whole : (place : ℕ) (bytes : List ℕ) (left : ℕ) → (transcript m some all place bytes).end ≡ Ok left → (transcript m some all place bytes).calls ≡ calls_in (drop making_size bytes)
+  transcript_whole place bytes = elim (transcript_cases m some all place bytes) [
+    | inl (reason, is) ↦ subst Whole (sym is) (λ left ends. cc)
+    | inr (n, k, rest, first, made, is) ↦ subst Whole (sym is) (λ left ends.
+        let (none, x, same, whatever) = begins bytes _ first in
+        (ending_ok (carrying m n) (sized m n k most_marks) (calls_in rest) (new_state (carrying m n)) (place + making_size) left _ ends).1 ∙ ap (λ (ys : List ℕ). calls_in (drop making_size ys)) (sym same))
   ]
     where
-      Whole : Told → Type 0
-      Whole t = (left : ℕ) → t.end ≡ Ok left → t.calls ≡ calls_in (drop 3 bytes)
+      Whole : Transcript → Type 0
+      Whole t = (left : ℕ) → t.end ≡ Ok left → t.calls ≡ calls_in (drop making_size bytes)
 
   -- the messages that were sent and not received are counted, if a recording ends well
-  abbrev Leaves : Told → Type 0
+  abbrev Leaves : Transcript → Type 0
   Leaves t = (left : ℕ) → t.end ≡ Ok left → HowMany (λ p. Sent (events_in t.calls) p × (Received (events_in t.calls) p → ⊥)) left
 
   -- Where any recording ends well, the messages that were sent and not received are counted.
-  told_leaves : (place : ℕ) (bytes : List ℕ) → Leaves (told m some all place bytes)
-  told_leaves place bytes = elim (told_cases m some all place bytes) [
-    | inl (reason, e) ↦ subst Leaves (sym e) (λ left p. cc)
-    | inr (n, k, rest, c, r, e) ↦ subst Leaves (sym e) (λ left p. subst (HowMany _) (sym (left_on n k (place + 3) rest left p))
+  transcript_leaves : (place : ℕ) (bytes : List ℕ) → Leaves (transcript m some all place bytes)
+  transcript_leaves place bytes = elim (transcript_cases m some all place bytes) [
+    | inl (reason, is) ↦ subst Leaves (sym is) (λ left ends. cc)
+    | inr (n, k, rest, first, made, is) ↦ subst Leaves (sym is) (λ left ends. subst (HowMany _) (sym (left_on n k (place + making_size) rest left ends))
         (run_counted (carrying m n) (sized m n k most_marks) _ (reads_ok (carrying m n) (sized m n k most_marks) (new_history (carrying m n)) (calls_in rest))))
   ]
 
 -- Where a recording ends well, the messages that were sent and not received are counted.
-pub left_counted : (b : List ℕ) (left : ℕ) → (told_in b).end ≡ Ok left
-    → HowMany (λ p. Sent (events_in (told_in b).calls) p × (Received (events_in (told_in b).calls) p → ⊥)) left
-left_counted b = told_leaves (judge_in b) (some_in b) (all_in b) (recording_at b) (drop (recording_at b) b)
+pub left_counted : (b : List ℕ) (left : ℕ) → (transcript_in b).end ≡ Ok left
+    → HowMany (λ p. Sent (events_in (transcript_in b).calls) p × (Received (events_in (transcript_in b).calls) p → ⊥)) left
+left_counted b = transcript_leaves (judge_in b) (some_in b) (all_in b) (recording_at b) (drop (recording_at b) b)
 
 -- Where a recording ends well, all calls after its making are read.
-pub all_read : (b : List ℕ) (left : ℕ) → (told_in b).end ≡ Ok left → (told_in b).calls ≡ calls_in (drop 3 (drop (recording_at b) b))
-all_read b = told_whole (judge_in b) (some_in b) (all_in b) (recording_at b) (drop (recording_at b) b)
+pub all_read : (b : List ℕ) (left : ℕ) → (transcript_in b).end ≡ Ok left → (transcript_in b).calls ≡ calls_in (drop making_size (drop (recording_at b) b))
+all_read b = transcript_whole (judge_in b) (some_in b) (all_in b) (recording_at b) (drop (recording_at b) b)
 
 -- And after them stands an end, and nothing more.
-pub ended : (b : List ℕ) (left : ℕ) → (told_in b).end ≡ Ok left → (p : ℕ) × AfterCalls b p × (first_command (drop p b) ≡ Ok (commands.End, []))
-ended b left ends = elim (told_cases (judge_in b) (some_in b) (all_in b) (recording_at b) (drop (recording_at b) b)) [
-  | inl (reason, t) ↦ let end = ap (λ (t : Told). t.end) t in absurd (cc)
-  | inr (n, k, rest, first, made, t) ↦
+pub ended : (b : List ℕ) (left : ℕ) → (transcript_in b).end ≡ Ok left → (p : ℕ) × AfterCalls b p × (first_command (drop p b) ≡ Ok (commands.End, []))
+ended b left ends = elim (transcript_cases (judge_in b) (some_in b) (all_in b) (recording_at b) (drop (recording_at b) b)) [
+  | inl (reason, is) ↦ let end = ap (λ (is : Transcript). is.end) is in absurd (cc)
+  | inr (n, k, rest, first, made, is) ↦
       let (none, x, same, whatever) = begins (drop (recording_at b) b) _ first in
       let cs = calls_in rest in
-      let (p, q) = ending_ok (carrying (judge_in b) n) (sized (judge_in b) n k most_marks) cs (new_state (carrying (judge_in b) n)) (recording_at b + 3) left _ (sym (ap (λ (t : Told). t.end) t) ∙ ends) in
-      let there : drop (recording_at b + 3 + 3 * length cs) b ≡ drop (3 * length cs) rest =
-      sym (ap (drop (3 * length cs)) (sym (ap (drop 3) same)) ∙ drop-drop (3 * length cs) 3 (drop (recording_at b) b) ∙ drop-drop (3 + 3 * length cs) (recording_at b) b
-      ∙ ap (λ (j : ℕ). drop j b) (omega arith)) in (
-        recording_at b + 3 + 3 * length cs,
-        (n, k, rest, first, made, ap (λ (l : List Call). recording_at b + 3 + 3 * length l) (sym (ap (λ (t : Told). t.calls) t ∙ q))),
-        ap first_command there ∙ closed_end _ _ _ left p,
+      let (closes, whole) = ending_ok (carrying (judge_in b) n) (sized (judge_in b) n k most_marks) cs (new_state (carrying (judge_in b) n)) (recording_at b + making_size) left _ (sym (ap (λ (is : Transcript). is.end) is) ∙ ends) in
+      let there = after_making (recording_at b) b rest (sym (ap (drop making_size) same)) (call_size * length cs) (recording_at b + making_size + call_size * length cs) refl in (
+        recording_at b + making_size + call_size * length cs,
+        (n, k, rest, first, made, ap (λ (l : List Call). recording_at b + making_size + call_size * length l) (sym (ap (λ (is : Transcript). is.calls) is ∙ whole))),
+        ap first_command there ∙ (end_after_calls-ok _ _ _ left closes).0,
       )
 ]

@@ -9,51 +9,51 @@ use Rattle.measures.proofs.Recognizing.{padded_complete}
 use Rattle.reports.specs.declared.faults.Fault.TheVariants.{Pattern, Relabelling}
 use Rattle.text.specs.Inputs.{most_bytes}
 use Rattle.reports.specs.Reports.{relabelling_at, front_fault}
-use Rattle.reports.proofs.Asked.{asked, both, mapped}
+use Rattle.reports.proofs.QuestionFacts.{ask_parts, or_parts, map_part}
 
--- Where no entry is told as too large, none was found.
+-- Where no entry is a fault, none was found too large.
 over_none : (from : ℕ) (o : Option ℕ) → over_fault from o ≡ None → o ≡ None
 over_none from None e = refl
 over_none from (Some i) e = absurd (cc)
 
 -- What is counted is from 1 to 64.
 counted_is : (n : ℕ) → counted n ≡ true → (0 < n) × (n ≤ 64)
-counted_is n e = let (p, q) = and_parts (nat_le 1 n) (nat_le n 64) e in let a = leb-true 1 n p in (omega arith, leb-true n 64 q)
+counted_is n is = let (some, few) = and_parts (nat_le 1 n) (nat_le n 64) is in let at_least = leb-true 1 n some in (omega arith, leb-true n 64 few)
 
 -- A table without a fault has all of its entries, each below the bound.
 pub table_sound : (b : List ℕ) (from count bound : ℕ) → table_fault b from count bound ≡ None
     → (from + count ≤ length b) × ((k : ℕ) → k < count → get_or (take count (drop from b)) k 0 < bound)
-table_sound b from count bound e =
-    let (p, q) = asked (nat_le (from + count) (length b)) _ (over_fault from (first_over bound (take count (drop from b)))) e in
-    let fits = leb-true (from + count) (length b) p in
+table_sound b from count bound none =
+    let (reaches, each) = ask_parts (nat_le (from + count) (length b)) _ (over_fault from (first_over bound (take count (drop from b)))) none in
+    let fits = leb-true (from + count) (length b) reaches in
     let all : length (take count (drop from b)) ≡ count = simp (length-take, length-drop) (omega arith) in
-    (fits, λ k l. below_bound bound (take count (drop from b)) (over_none from _ q) k (omega arith))
+    (fits, λ k inside. below_bound bound (take count (drop from b)) (over_none from _ each) k (omega arith))
 
 module _ (b : List ℕ) (sound : front_fault b ≡ None) where
   -- The input is not too long, and neither its pattern nor its relabelling has a fault.
   pub front_parts : (nat_le (length b) most_bytes ≡ true) × (pattern_fault b ≡ None) × (relabelling_fault b (relabelling_at b) (labels_in b) ≡ None)
   front_parts =
-      let (size, rest) = asked (nat_le (length b) most_bytes) _ (option_or (option_map Pattern (pattern_fault b)) (option_map Relabelling (relabelling_fault b (relabelling_at b) (labels_in b)))) sound in
-      let (p, q) = both _ _ rest in
-      (size, mapped _ _ p, mapped _ _ q)
+      let (size, rest) = ask_parts (nat_le (length b) most_bytes) _ (option_or (option_map Pattern (pattern_fault b)) (option_map Relabelling (relabelling_fault b (relabelling_at b) (labels_in b)))) sound in
+      let (pattern, relabelling) = or_parts _ _ rest in
+      (size, map_part _ _ pattern, map_part _ _ relabelling)
 
   -- The head and the table of the pattern have none, and the head and the table of the relabelling.
   parts_sound : (head_fault b ≡ None) × (table_fault b 12 (states_in b * labels_in b) (states_in b) ≡ None) × (relabelling_head_fault b (relabelling_at b) ≡ None)
   parts_sound =
-      let (size, p, q) = front_parts in
-      let (h, t) = both (head_fault b) _ p in
-      (h, t, (both (relabelling_head_fault b (relabelling_at b)) _ q).0)
+      let (size, pattern, relabelling) = front_parts in
+      let (head, table) = or_parts (head_fault b) _ pattern in
+      (head, table, (or_parts (relabelling_head_fault b (relabelling_at b)) _ relabelling).0)
 
   -- There are 1 to 64 states and 1 to 64 labels, and the start is a state.
   head_sound : (0 < states_in b) × (states_in b ≤ 64) × ((0 < labels_in b) × (labels_in b ≤ 64)) × (start_in b < states_in b)
   head_sound =
-      let long = (asked _ _ _ parts_sound.0).1 in
-      let tag = (asked _ _ _ long).1 in
-      let states = asked (counted (states_in b)) _ _ tag in
-      let labels = asked (counted (labels_in b)) _ _ states.1 in
-      let start = asked (nat_lt (start_in b) (states_in b)) _ _ labels.1 in
-      let s = counted_is (states_in b) states.0 in
-      (s.0, s.1, counted_is (labels_in b) labels.0, ltb-true (start_in b) (states_in b) start.0)
+      let long = (ask_parts _ _ _ parts_sound.0).1 in
+      let tag = (ask_parts _ _ _ long).1 in
+      let states = ask_parts (counted (states_in b)) _ _ tag in
+      let labels = ask_parts (counted (labels_in b)) _ _ states.1 in
+      let start = ask_parts (nat_lt (start_in b) (states_in b)) _ _ labels.1 in
+      let counted_states = counted_is (states_in b) states.0 in
+      (counted_states.0, counted_states.1, counted_is (labels_in b) labels.0, ltb-true (start_in b) (states_in b) start.0)
 
   -- There are 1 to 64 labels.
   pub labels_counted : (0 < labels_in b) × (labels_in b ≤ 64)
@@ -72,6 +72,6 @@ module _ (b : List ℕ) (sound : front_fault b ≡ None) where
   -- The relabelling has 1 to 64 labels.
   pub count_counted : (0 < relabelling_labels_in b (relabelling_at b)) × (relabelling_labels_in b (relabelling_at b) ≤ 64)
   count_counted =
-      let tag = (asked _ _ _ parts_sound.2).1 in
-      let long = (asked _ _ _ tag).1 in
-      counted_is (relabelling_labels_in b (relabelling_at b)) (asked (counted (relabelling_labels_in b (relabelling_at b))) _ _ long).0
+      let tag = (ask_parts _ _ _ parts_sound.2).1 in
+      let long = (ask_parts _ _ _ tag).1 in
+      counted_is (relabelling_labels_in b (relabelling_at b)) (ask_parts (counted (relabelling_labels_in b (relabelling_at b))) _ _ long).0

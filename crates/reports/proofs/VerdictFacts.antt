@@ -1,4 +1,6 @@
--- What the value that a mark was told says of the longest flows, in the words of the pattern under the relabelling.
+-- What the value of a mark says of the longest flows that end there, in the words of the pattern under the relabelling.
+-- The law of judges (`measures`) gives this for any lawful measure and answers that go through its joins. The relabelled pattern is one, since an
+-- accepted front keeps its numbers within their bounds; and one state more or less is such an answer too, which gives the set exactly.
 use Rattle.std.proofs.Common.{◌≡◌, ℕ, ◌^◌, ◌<◌, Bool, ◌||◌, ◌↔◌, List, None, IsTrue, bit_or, refl, ap}
 use Rattle.std.proofs.lemmas.Bool.Decides.{Decides-at, Decides-eqb}
 use Rattle.bitset.specs.Sets.{bit, Member, has}
@@ -21,9 +23,9 @@ use Rattle.measures.proofs.Translating.{translated_judges}
 use Rattle.measures.proofs.Valuing.{ranged}
 use Rattle.reports.specs.Laws.{in_pattern}
 use Rattle.reports.specs.Reports.{relabelling_at, front_fault, judge_in, some_in, all_in}
-use Rattle.reports.proofs.Facts.{labels_counted, start_below, table_below, count_counted}
+use Rattle.reports.proofs.FrontFacts.{labels_counted, start_below, table_below, count_counted}
 
--- What a set says of the longest flows that end at place i of unit u: it holds exactly the states to which their words lead the pattern, once
+-- What a set says of the longest flows that end at event i of unit u: it holds exactly the states to which their words lead the pattern, once
 -- relabelled, and its two answers tell whether some, and whether each, of these words is accepted.
 abbrev pub SetTells : List ℕ → Events → ℕ → ℕ → ℕ → Type 0
 SetTells b ev u i set =
@@ -54,18 +56,18 @@ module _ (b : List ℕ) (sound : front_fault b ≡ None) where
       (state_sets_lawful (states_in b) (labels_in b) (start_in b) (padded 4096 (table_in b)) (labels_counted b sound) (start_below b sound) (table_below b sound))
 
   -- An answer that the pattern shows of words is one that the relabelled pattern shows of relabelled words.
-  carried_over : {op : Bool → Bool → Bool} {answer : ℕ → Bool} {good : Word → Type 0} → Judges op inner admits answer good
+  relabelled_judges : {op : Bool → Bool → Bool} {answer : ℕ → Bool} {good : Word → Type 0} → Judges op inner admits answer good
       → Judges op (judge_in b) admits answer (λ w. good (in_pattern b w))
-  carried_over = translated_judges entries (relabelling_labels_in b (relabelling_at b)) inner (labels_counted b sound).0
+  relabelled_judges = translated_judges entries (relabelling_labels_in b (relabelling_at b)) inner (labels_counted b sound).0
 
   -- The pattern recognizes the words that its bytes accept.
-  told : Recognizes b inner (some_in b) (all_in b)
-  told = recognizes b (states_in b) (labels_in b) (start_in b) (finals_in b) (padded 4096 (table_in b)) parts (labels_counted b sound) (start_below b sound) (table_below b sound)
+  pattern_recognizes : Recognizes b inner (some_in b) (all_in b)
+  pattern_recognizes = recognizes b (states_in b) (labels_in b) (start_in b) (finals_in b) (padded 4096 (table_in b)) parts (labels_counted b sound) (start_below b sound) (table_below b sound)
 
   -- An answer that goes through unions, and says of one word whether the pattern accepts it, judges the relabelled words.
   judges : {op : Bool → Bool → Bool} (answer : ℕ → Bool) → ((x y : ℕ) → answer (bit_or x y) ≡ op (answer x) (answer y))
       → ((w : Word) → Labels (labels_in b) w → answer (carried inner w) ≡ accepts b w) → Judges op (judge_in b) admits answer (λ w. IsTrue (accepts b (in_pattern b w)))
-  judges answer joins is = carried_over {good = λ w. IsTrue (accepts b w)} (record {
+  judges answer joins is = relabelled_judges {good = λ w. IsTrue (accepts b w)} (record {
     joins = λ x y _ _. joins x y;
     decides = accepted_decides b (states_in b) (labels_in b) (start_in b) (finals_in b) (padded 4096 (table_in b)) parts (labels_counted b sound) (start_below b sound) (table_below b sound) answer is;
   })
@@ -73,21 +75,21 @@ module _ (b : List ℕ) (sound : front_fault b ≡ None) where
   -- Whether a set holds state q says of one word whether it leads there, once relabelled.
   judges_state : (q : ℕ) → Judges ◌||◌ (judge_in b) admits (λ set. has set q) (λ w. state_after b (in_pattern b w) ≡ q)
   judges_state q =
-      carried_over (holds_judges b (states_in b) (labels_in b) (start_in b) (finals_in b) (padded 4096 (table_in b)) parts (labels_counted b sound) (start_below b sound) (table_below b sound) q)
+      relabelled_judges (holds_judges b (states_in b) (labels_in b) (start_in b) (finals_in b) (padded 4096 (table_in b)) parts (labels_counted b sound) (start_below b sound) (table_below b sound) q)
 
-  -- The value told at each mark of every run says so of its longest flows.
+  -- The value of each mark of every run says so of its longest flows.
   pub sets_tell : AtMarks (judge_in b) (SetTells b)
   sets_tell n k limit cs u i l e =
       let m = judge_in b in
-      let (v, judged) = marks_judged m admits laws (some_in b) (all_in b) (λ w. IsTrue (accepts b (in_pattern b w)))
-      (judges (some_in b) (meets_or (finals_in b)) told.some_is) (judges (all_in b) (within_or (finals_in b)) told.all_is) n k limit cs u i l e in (
-        v,
+      let (valued, judged) = marks_judged m admits laws (some_in b) (all_in b) (λ w. IsTrue (accepts b (in_pattern b w)))
+      (judges (some_in b) (meets_or (finals_in b)) pattern_recognizes.some_is) (judges (all_in b) (within_or (finals_in b)) pattern_recognizes.all_is) n k limit cs u i l e in (
+        valued,
         (
           λ q.
-              (let held = Decides-eqb (bit v.answered.value q) 1 in
-              let reached = Decides-at _ _ (ap (λ (set : ℕ). has set q) v.value_is)
-              (some_decided m admits laws n k limit (accepted_events m n k limit cs) (ranged m admits laws n k limit cs) u i (λ set. has set q) (λ w. state_after b (in_pattern b w) ≡ q) v.flow v.flows v.all (judges_state q)) in
-              ((λ x. reached.0 (held.1 x)), (λ p. held.0 (reached.1 p)))),
+              (let is_held = Decides-eqb (bit valued.answered.value q) 1 in
+              let is_reached = Decides-at _ _ (ap (λ (set : ℕ). has set q) valued.value_is)
+              (some_decided m admits laws n k limit (accepted_events m n k limit cs) (ranged m admits laws n k limit cs) u i (λ set. has set q) (λ w. state_after b (in_pattern b w) ≡ q) valued.flow valued.flows valued.all (judges_state q)) in
+              ((λ x. is_reached.0 (is_held.1 x)), (λ p. is_held.0 (is_reached.1 p)))),
           judged,
         ),
       )

@@ -1,4 +1,4 @@
--- What the mark at the end of a list of accepted calls was told, and its line.
+-- The mark at the end of a list of accepted calls: its event, and the answer to it.
 use Rattle.std.proofs.Common.{◌≡◌, ℕ, Bool, List, [], ◌∷◌, ◌++◌, length, Some, None, refl, sym, ap, ◌∙◌, if◌then◌else◌, ◌==◌, true, false}
 use Rattle.std.specs.List.{slice_get}
 use Rattle.std.proofs.Math.Path.{fun_ext}
@@ -13,8 +13,8 @@ use Rattle.history.proofs.Accepting.{accepts_runs}
 use Rattle.history.proofs.Logs.{grown_here}
 use Rattle.history.proofs.Runs.{after_taken, run_push}
 use Rattle.history.proofs.Told.{said_run}
-use Rattle.reports.proofs.Reading.{AllTaken, taken_accepted}
-use Rattle.reports.proofs.Taking.{taken_both}
+use Rattle.reports.proofs.TranscriptFacts.{AllTaken, taken_accepted}
+use Rattle.reports.proofs.LineFacts.{taken_both}
 
 -- After the elements of a list stands the next.
 pub seam : {A : Type 0} (xs : List A) (y : A) (ys : List A) → slice_get (xs ++ y ∷ ys) (length xs) ≡ Some y
@@ -37,12 +37,12 @@ with_mark before u l = before ++ call u (mark l) ∷ []
 module _ {V : Type 0} (M : Payload V) (z : Size) where
   -- The log of accepted calls is these calls unit by unit.
   pub log_is : (cs : List Call) → AllTaken M z (new_history M) cs → (run M z cs).log ≡ by_unit cs
-  log_is cs t = fun_ext (λ u. (accepts_runs M z cs).logged u ∙ ap (λ (l : List Call). by_unit l u) (taken_accepted M z (new_history M) cs t))
+  log_is cs taken = fun_ext (λ u. (accepts_runs M z cs).logged u ∙ ap (λ (l : List Call). by_unit l u) (taken_accepted M z (new_history M) cs taken))
 
-  module _ (before : List Call) (u l : ℕ) (t : AllTaken M z (new_history M) before) (ok : refusal M z (run M z before).state u (mark l) ≡ None) where
+  module _ (before : List Call) (u l : ℕ) (taken : AllTaken M z (new_history M) before) (allowed : refusal M z (run M z before).state u (mark l) ≡ None) where
     -- All of the calls are accepted.
     all_taken : AllTaken M z (new_history M) (with_mark before u l)
-    all_taken = taken_both M z (new_history M) before (call u (mark l) ∷ []) t (ok, tt)
+    all_taken = taken_both M z (new_history M) before (call u (mark l) ∷ []) taken (allowed, tt)
 
     -- The events of the run are those of the calls, and the mark stands there.
     pub events_are : happened M z (with_mark before u l) ≡ events_in (with_mark before u l)
@@ -51,14 +51,14 @@ module _ {V : Type 0} (M : Payload V) (z : Size) where
     pub mark_there : happened M z (with_mark before u l) u (length (by_unit before u)) ≡ Some (mark l)
     mark_there = ap (λ (ev : Events). ev u (length (by_unit before u))) events_are ∙ ap (λ (es : List Event). slice_get es (length (by_unit before u))) (by_unit_push before u (mark l)) ∙ seam (by_unit before u) (mark l) []
 
-    -- What the mark was told is the answer to it.
+    -- What the history says that the mark was told is the answer to it.
     pub answer_is : (r : Reply V) → at (run M z (with_mark before u l)).told u (length (by_unit before u)) ≡ Some r
         → r.answer ≡ answer_to M z u (mark l) ((run M z before).state.rows u) ((acted M z (run M z before).state u (mark l)).rows u)
     answer_is r e =
         let h = run M z before in
         let x = reply M z u (mark l) (h.state.rows u) ((acted M z h.state u (mark l)).rows u) in
-        let next = run_push M z before (call u (mark l)) ∙ after_taken M z h (call u (mark l)) ok in
-        let last = (said_run M z before).as_long u ∙ ap (λ (logs : Logs). length (logs u)) (log_is before t) in
+        let next = run_push M z before (call u (mark l)) ∙ after_taken M z h (call u (mark l)) allowed in
+        let last = (said_run M z before).as_long u ∙ ap (λ (logs : Logs). length (logs u)) (log_is before taken) in
         ap (λ (y : Reply V). y.answer)
         (same_Some _ _
         (sym e

@@ -13,13 +13,13 @@ use Rattle.reports.specs.declared.commands.Command.TheVariants as commands
 use Rattle.reports.specs.declared.faults.Reason.{Reason}
 use Rattle.reports.specs.declared.faults.Reason.TheVariants.{NoBoard, Refused}
 use Rattle.reports.specs.declared.lines.MarkLine.{MarkLine}
-use Rattle.reports.specs.Commands.{first_command}
-use Rattle.reports.specs.Recordings.{before_refusal, line, lines, told_nothing, told_of_board, told_on, told_from, told}
+use Rattle.reports.specs.Commands.{making_size, first_command}
+use Rattle.reports.specs.Recordings.{calls_before_refusal, line, lines, empty_transcript, transcript_of_board, transcript_on, transcript_from, transcript}
 
 module _ {V : Type 0} (M : Payload V) (z : Size) where
   -- the calls before the first refusal
   abbrev pub reads : State V → List Call → List Call
-  reads s cs = before_refusal cs (outcomes_from M z s cs)
+  reads s cs = calls_before_refusal cs (outcomes_from M z s cs)
 
   -- each call is accepted after those before it
   abbrev pub AllTaken : History V → List Call → Type 0
@@ -28,14 +28,14 @@ module _ {V : Type 0} (M : Payload V) (z : Size) where
 
   -- The calls before the first refusal are all accepted.
   pub reads_taken : (h : History V) (cs : List Call) → AllTaken h (reads h.state cs)
-  reads_taken = by_calls M z (λ h cs. AllTaken h (reads h.state cs)) (λ h. tt) (λ h c cs e ih. rw (e, e) (refl, ih)) (λ h c cs x e same. rw e tt)
+  reads_taken = by_calls M z (λ h cs. AllTaken h (reads h.state cs)) (λ h. tt) (λ h c cs allowed later. rw (allowed, allowed) (refl, later)) (λ h c cs refused_so allowed same. rw allowed tt)
 
   -- Where all are accepted, the accepted calls are all of them.
   pub taken_accepted : (h : History V) (cs : List Call) → AllTaken h cs → accepted_from M z h cs ≡ cs
-  taken_accepted h [] t = refl
-  taken_accepted h (c ∷ cs) t =
-      ap (λ (o : Option Refusal). if_taken o (c ∷ accepted_from M z (after M z h c) cs) (accepted_from M z (after M z h c) cs)) t.0
-      ∙ ap (λ (l : List Call). c ∷ l) (taken_accepted (after M z h c) cs t.1)
+  taken_accepted h [] taken = refl
+  taken_accepted h (c ∷ cs) taken =
+      ap (λ (o : Option Refusal). if_taken o (c ∷ accepted_from M z (after M z h c) cs) (accepted_from M z (after M z h c) cs)) taken.0
+      ∙ ap (λ (l : List Call). c ∷ l) (taken_accepted (after M z h c) cs taken.1)
 
   -- So they are all of the accepted calls among them.
   pub reads_ok : (h : History V) (cs : List Call) → accepted_from M z h (reads h.state cs) ≡ reads h.state cs
@@ -58,24 +58,24 @@ module _ (m : Meaning ℕ) (some all : ℕ → Bool) where
       (λ h c cs e ih. rw (e, e) (ap (λ (l : List MarkLine). line m some all c.unit (answer_to M z c.unit c.act (h.state.rows c.unit) ((acted M z h.state c.unit c.act).rows c.unit)) ++ l) ih))
       (λ h c cs x e same. rw e refl)
 
-  -- a recording tells nothing; or its first command makes a board, on which the rest is told
-  abbrev pub ToldCases : ℕ → List ℕ → Type 0
-  ToldCases place bytes =
-      ((reason : Reason) × (told m some all place bytes ≡ told_nothing m some all reason place))
+  -- a recording breaks off before any call; or its first command makes a board, and it comes to what the rest does on it
+  abbrev pub TranscriptCases : ℕ → List ℕ → Type 0
+  TranscriptCases place bytes =
+      ((reason : Reason) × (transcript m some all place bytes ≡ empty_transcript m some all reason place))
       ⊎ ((n k : ℕ) × (rest : List ℕ) × (first_command bytes ≡ Ok (commands.Make n k, rest)) × (make_refusal n k true ≡ None)
-      × (told m some all place bytes ≡ told_on m some all n k (new_state (carrying m n)) (place + 3) rest))
+      × (transcript m some all place bytes ≡ transcript_on m some all n k (new_state (carrying m n)) (place + making_size) rest))
 
   -- Each recording does the one or the other.
-  pub told_cases : (place : ℕ) (bytes : List ℕ) → ToldCases place bytes
-  told_cases place bytes = from (first_command bytes) refl
+  pub transcript_cases : (place : ℕ) (bytes : List ℕ) → TranscriptCases place bytes
+  transcript_cases place bytes = from (first_command bytes) refl
     where
       made : (n k : ℕ) (rest : List ℕ) → first_command bytes ≡ Ok (commands.Make n k, rest) → (o : Option Refusal) → make_refusal n k true ≡ o
-          → told m some all place bytes ≡ told_of_board m some all n k place rest o → ToldCases place bytes
+          → transcript m some all place bytes ≡ transcript_of_board m some all n k place rest o → TranscriptCases place bytes
       made n k rest e (Some x) r t = inl (Refused x, t)
       made n k rest e None r t = inr (n, k, rest, e, r, t)
 
-      from : (r : Result (Command × List ℕ) Reason) → first_command bytes ≡ r → ToldCases place bytes
-      from (Err reason) e = inl (reason, ap (told_from m some all place) e)
-      from (Ok (commands.Make n k, rest)) e = made n k rest e (make_refusal n k true) refl (ap (told_from m some all place) e)
-      from (Ok (commands.Call c, rest)) e = inl (NoBoard, ap (told_from m some all place) e)
-      from (Ok (commands.End, rest)) e = inl (NoBoard, ap (told_from m some all place) e)
+      from : (r : Result (Command × List ℕ) Reason) → first_command bytes ≡ r → TranscriptCases place bytes
+      from (Err reason) e = inl (reason, ap (transcript_from m some all place) e)
+      from (Ok (commands.Make n k, rest)) e = made n k rest e (make_refusal n k true) refl (ap (transcript_from m some all place) e)
+      from (Ok (commands.Call c, rest)) e = inl (NoBoard, ap (transcript_from m some all place) e)
+      from (Ok (commands.End, rest)) e = inl (NoBoard, ap (transcript_from m some all place) e)

@@ -10,17 +10,17 @@ use Rattle.measures.specs.Measures.{Meaning}
 use Rattle.reports.specs.declared.lines.MarkLine.{MarkLine}
 use Rattle.reports.specs.Laws.{marks_among}
 use Rattle.reports.specs.Recordings.{line, lines}
-use Rattle.reports.proofs.Reading.{AllTaken}
+use Rattle.reports.proofs.TranscriptFacts.{AllTaken}
 
 module _ {V : Type 0} (M : Payload V) (z : Size) where
   -- All of two lists are accepted, one after the other, exactly when those of the first are, and then those of the second.
   pub taken_parts : (h : History V) (cs ds : List Call) → AllTaken M z h (cs ++ ds) → AllTaken M z h cs × AllTaken M z (run_from M z h cs) ds
-  taken_parts h [] ds t = (tt, t)
-  taken_parts h (c ∷ cs) ds t = let (p, q) = taken_parts (after M z h c) cs ds t.1 in ((t.0, p), q)
+  taken_parts h [] ds taken = (tt, taken)
+  taken_parts h (c ∷ cs) ds taken = let (first, later) = taken_parts (after M z h c) cs ds taken.1 in ((taken.0, first), later)
 
   pub taken_both : (h : History V) (cs ds : List Call) → AllTaken M z h cs → AllTaken M z (run_from M z h cs) ds → AllTaken M z h (cs ++ ds)
-  taken_both h [] ds p q = q
-  taken_both h (c ∷ cs) ds p q = (p.0, taken_both (after M z h c) cs ds p.1 q)
+  taken_both h [] ds first later = later
+  taken_both h (c ∷ cs) ds first later = (first.0, taken_both (after M z h c) cs ds first.1 later)
 
 module _ (m : Meaning ℕ) (some all : ℕ → Bool) (M : Payload ℕ) (z : Size) where
   -- the lines of calls that are answered one after the other
@@ -32,17 +32,17 @@ module _ (m : Meaning ℕ) (some all : ℕ → Bool) (M : Payload ℕ) (z : Size
 
   -- An accepted call's line stands before those of the calls after it.
   pub lines_more : (h : History ℕ) (c : Call) (cs : List Call) → refusal M z h.state c.unit c.act ≡ None → lines_at h (c ∷ cs) ≡ line_at h c ++ lines_at (after M z h c) cs
-  lines_more h c cs e =
-      ap (λ (o : Option Refusal). lines m some all (c ∷ cs) (answered o (answer_to M z c.unit c.act (h.state.rows c.unit) ((acted M z h.state c.unit c.act).rows c.unit)) ∷ outcomes_from M z (next M z h.state c) cs)) e
+  lines_more h c cs allowed =
+      ap (λ (o : Option Refusal). lines m some all (c ∷ cs) (answered o (answer_to M z c.unit c.act (h.state.rows c.unit) ((acted M z h.state c.unit c.act).rows c.unit)) ∷ outcomes_from M z (next M z h.state c) cs)) allowed
 
   -- The lines of accepted calls and of those after them: the lines of the first and then of the others.
   pub lines_append : (h : History ℕ) (cs ds : List Call) → AllTaken M z h cs → lines_at h (cs ++ ds) ≡ lines_at h cs ++ lines_at (run_from M z h cs) ds
-  lines_append h [] ds t = refl
-  lines_append h (c ∷ cs) ds t =
-      lines_more h c (cs ++ ds) t.0
-      ∙ ap (λ (l : List MarkLine). line_at h c ++ l) (lines_append (after M z h c) cs ds t.1)
+  lines_append h [] ds taken = refl
+  lines_append h (c ∷ cs) ds taken =
+      lines_more h c (cs ++ ds) taken.0
+      ∙ ap (λ (l : List MarkLine). line_at h c ++ l) (lines_append (after M z h c) cs ds taken.1)
       ∙ sym (append_assoc (line_at h c) (lines_at (after M z h c) cs) (lines_at (run_from M z (after M z h c) cs) ds))
-      ∙ ap (λ (l : List MarkLine). l ++ lines_at (run_from M z (after M z h c) cs) ds) (sym (lines_more h c cs t.0))
+      ∙ ap (λ (l : List MarkLine). l ++ lines_at (run_from M z (after M z h c) cs) ds) (sym (lines_more h c cs taken.0))
 
   -- Only a mark has a line.
   line_counted : (u : ℕ) (e : Event) (r t : ℕ → Cell ℕ) → length (line m some all u (answer_to M z u e r t)) ≡ tick (Some e)
@@ -52,8 +52,8 @@ module _ (m : Meaning ℕ) (some all : ℕ → Bool) (M : Payload ℕ) (z : Size
 
   -- There are as many lines of accepted calls as marks.
   pub lines_count : (h : History ℕ) (cs : List Call) → AllTaken M z h cs → length (lines_at h cs) ≡ marks_among cs
-  lines_count h [] t = refl
-  lines_count h (c ∷ cs) t =
-      ap length (lines_more h c cs t.0)
+  lines_count h [] taken = refl
+  lines_count h (c ∷ cs) taken =
+      ap length (lines_more h c cs taken.0)
       ∙ length-append (line_at h c) (lines_at (after M z h c) cs)
-      ∙ ap₂ ◌+◌ (line_counted c.unit c.act (h.state.rows c.unit) ((acted M z h.state c.unit c.act).rows c.unit)) (lines_count (after M z h c) cs t.1)
+      ∙ ap₂ ◌+◌ (line_counted c.unit c.act (h.state.rows c.unit) ((acted M z h.state c.unit c.act).rows c.unit)) (lines_count (after M z h c) cs taken.1)
