@@ -121,9 +121,13 @@ make_refusal n k room =
 abbrev pub state_answer : ℕ → Bool → List Post → ℕ → Result Post Refusal
 state_answer k room posts m = if room then (if nat_lt m k then Ok (slice_index_or posts m unsent) else Err NoSuchMessage) else Err MemoryTooShort
 
--- how many of the messages below k are on their way, or why it is not told
+-- how many of the messages below k are on their way
+abbrev pub left_among : (ℕ → Post) → ℕ → ℕ
+left_among posts k = count_below (λ m. travels (posts m)) k
+
+-- their number, or why it is not told
 abbrev pub left_answer : ℕ → Bool → List Post → Result ℕ Refusal
-left_answer k room posts = if room then Ok (count_below (λ m. travels (slice_index_or posts m unsent)) k) else Err MemoryTooShort
+left_answer k room posts = if room then Ok (left_among (λ m. slice_index_or posts m unsent) k) else Err MemoryTooShort
 
 -- What the making of a board of that setup owes to the memory.
 pub record Begins {V : Type 0} (b : Setup V) (old new : Memory V) : Type 0 where

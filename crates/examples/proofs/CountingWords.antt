@@ -5,7 +5,7 @@ use Rattle.std.proofs.lemmas.Bool.{lt-ltb, le-ltb, cond-false}
 use Rattle.measures.specs.Words.{Letter, Word}
 use Rattle.measures.specs.Measures.{Lawful}
 use Rattle.measures.specs.Laws.{LawOfRuns}
-use Rattle.measures.proofs.Valuing.{law_of_runs}
+use Rattle.measures.proofs.Promises.{law_of_runs}
 use Rattle.examples.specs.WorkedRuns.{words, put_in_front}
 
 put_in_front_joined : (l : Letter) (f g : Word → ℕ) (w : Word) → put_in_front l (λ v. f v + g v) w ≡ put_in_front l f w + put_in_front l g w

@@ -3,22 +3,24 @@
 use Rattle.std.proofs.Common.{◌≡◌, ℕ, ◌==◌, Bool, if◌then◌else◌, List, [], ◌∷◌, ◌++◌, drop, None, sym, refl, ap, ◌∙◌, subst, inl, inr}
 use Rattle.std.proofs.Math.Path.{fun_ext}
 use Rattle.std.proofs.lemmas.Bool.{cases_eq, eq-eqb, ne_eqb}
-use Rattle.history.specs.Board.{History, Answer, own_clock, marked, new_history, acted, answer_to, outcomes_from, outcomes, accepted}
+use Rattle.history.specs.Board.{History, new_history, acted, answer_to, outcomes_from, outcomes, accepted}
+use Rattle.history.specs.declared.calls.Answer.{Answer}
+use Rattle.history.specs.declared.calls.Answer.TheVariants.{Sent, Received, Marked}
 use Rattle.history.specs.Counting.{HowMany}
 use Rattle.history.specs.Events.{Logs, at, Sent, Received}
 use Rattle.history.specs.Laws.{answers_of}
 use Rattle.history.specs.Rows.{Payload}
-use Rattle.history.specs.Runs.{Size, Call, SameByUnit}
-use Rattle.history.proofs.Lists.{how_many_one}
-use Rattle.history.proofs.Runs.{by_calls}
+use Rattle.history.specs.Runs.{Size, SameByUnit}
+use Rattle.history.specs.declared.Call.{Call}
+use Rattle.history.proofs.Promises.{how_many_one, by_calls}
 use Rattle.history.specs.Limits.{most_marks}
 use Rattle.measures.specs.Laws.{MarksValued}
 use Rattle.measures.specs.Measures.{Meaning}
-use Rattle.measures.specs.Worths.{carrying, sized}
+use Rattle.measures.specs.Worths.{measured_payload, measured_size}
 use Rattle.reports.specs.declared.lines.MarkLine.{MarkLine}
 use Rattle.reports.specs.Commands.{calls_in}
 use Rattle.reports.specs.Laws.{SameFront, lines_of, ReportsAgree}
-use Rattle.reports.specs.Recordings.{Transcript, line, lines, transcript}
+use Rattle.reports.specs.Recordings.{Transcript, line, lines, mark_line, transcript}
 use Rattle.reports.specs.Reports.{front_fault, recording_at, judge_in, some_in, all_in, transcript_in}
 use Rattle.reports.proofs.VerdictFacts.{sets_tell}
 use Rattle.reports.proofs.EndFacts.{left_counted}
@@ -38,9 +40,10 @@ module _ (m : Meaning ℕ) (some all : ℕ → Bool) where
     -- one answer more, of any unit
     one_line : (v : ℕ) (a : Answer ℕ) (ls : List MarkLine) (answers : List (Answer ℕ)) → lines_of u ls ≡ lines_by answers
         → lines_of u (line m some all v a ++ ls) ≡ lines_by (if u == v then a ∷ answers else answers)
-    one_line v (own_clock clock) ls answers others = elim (cases_eq u v) [ inl e ↦ rw (eq-eqb u v e) others | inr ne ↦ rw (ne_eqb u v ne) others ]
-    one_line v (marked clock predecessors x) ls answers others = elim (cases_eq u v) [
-      | inl e ↦ rw (eq-eqb u v e) (rw (← e) (ap (λ (l : List MarkLine). record { unit = u; clock = clock; predecessors = predecessors; states = x; some = some x; all = all x } ∷ l) others))
+    one_line v (Sent clock) ls answers others = elim (cases_eq u v) [ inl e ↦ rw (eq-eqb u v e) others | inr ne ↦ rw (ne_eqb u v ne) others ]
+    one_line v (Received clock) ls answers others = elim (cases_eq u v) [ inl e ↦ rw (eq-eqb u v e) others | inr ne ↦ rw (ne_eqb u v ne) others ]
+    one_line v (Marked x) ls answers others = elim (cases_eq u v) [
+      | inl e ↦ rw (eq-eqb u v e) (rw (← e) (ap (λ (l : List MarkLine). mark_line some all u x ∷ l) others))
       | inr ne ↦ rw (ne_eqb u v ne) others
     ]
 
@@ -51,22 +54,22 @@ module _ (m : Meaning ℕ) (some all : ℕ → Bool) where
       lines_answered = by_calls M z
           (λ h cs. lines_of u (lines m some all cs (outcomes_from M z h.state cs)) ≡ lines_by (answers_of u (reads M z h.state cs) (outcomes_from M z h.state (reads M z h.state cs))))
           (λ h. refl)
-          (λ h c cs e ih. rw (e, e) (one_line c.unit (answer_to M z c.unit c.act (h.state.rows c.unit) ((acted M z h.state c.unit c.act).rows c.unit)) _ _ ih))
+          (λ h c cs e ih. rw (e, e) (one_line c.unit (answer_to M z c.unit c.event (h.state.rows c.unit) ((acted M z h.state c.unit c.event).rows c.unit)) _ _ ih))
           (λ h c cs x e same. rw e refl)
 
   -- The calls of a transcript are all accepted by some board, and its lines are those of the answers to them.
   abbrev OnBoard : Transcript → Type 0
   OnBoard t =
-      (n k : ℕ) × (accepted (carrying m n) (sized m n k most_marks) t.calls ≡ t.calls)
-      × ((u : ℕ) → lines_of u t.lines ≡ lines_by u (answers_of u t.calls (outcomes (carrying m n) (sized m n k most_marks) t.calls)))
+      (n k : ℕ) × (accepted (measured_payload m n) (measured_size m n k most_marks) t.calls ≡ t.calls)
+      × ((u : ℕ) → lines_of u t.lines ≡ lines_by u (answers_of u t.calls (outcomes (measured_payload m n) (measured_size m n k most_marks) t.calls)))
 
   -- So it is of each transcript.
   on_board : (place : ℕ) (bytes : List ℕ) → OnBoard (transcript m some all place bytes)
   on_board = transcript_by_cases m some all OnBoard (λ reason place. (0, 0, refl, λ u. refl)) (λ n k place bytes. (
     n,
     k,
-    reads_ok (carrying m n) (sized m n k most_marks) (new_history (carrying m n)) (calls_in bytes),
-    λ u. lines_answered u (carrying m n) (sized m n k most_marks) (new_history (carrying m n)) (calls_in bytes),
+    reads_ok (measured_payload m n) (measured_size m n k most_marks) (new_history (measured_payload m n)) (calls_in bytes),
+    λ u. lines_answered u (measured_payload m n) (measured_size m n k most_marks) (new_history (measured_payload m n)) (calls_in bytes),
   ))
 
   -- Transcripts of calls that are the same unit by unit have the same lines of each unit.

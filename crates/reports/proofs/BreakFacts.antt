@@ -5,12 +5,13 @@ use Rattle.std.proofs.Common.{◌≡◌, ℕ, ◌+◌, ◌*◌, ◌<◌, ◌⊎�
 use Rattle.std.proofs.lemmas.List.{drop-drop, drop-take}
 use Rattle.history.specs.declared.refusals.Refusal.{Refusal}
 use Rattle.history.specs.Rows.{Payload}
-use Rattle.history.specs.Runs.{Size, Call}
+use Rattle.history.specs.Runs.{Size}
+use Rattle.history.specs.declared.Call.{Call}
 use Rattle.history.specs.Board.{History, new_history, new_state, outcomes_from, refusal, run_from, state_from}
-use Rattle.history.proofs.Runs.{by_calls, taken}
+use Rattle.history.proofs.Promises.{by_calls, taken}
 use Rattle.history.specs.Limits.{most_marks}
-use Rattle.causality.specs.Boards.{make_refusal, travelling}
-use Rattle.measures.specs.Worths.{carrying, sized}
+use Rattle.causality.specs.Boards.{make_refusal, left_among}
+use Rattle.measures.specs.Worths.{measured_payload, measured_size}
 use Rattle.reports.specs.declared.commands.Command.{Command}
 use Rattle.reports.specs.declared.commands.Command.TheVariants as commands
 use Rattle.reports.specs.declared.faults.Reason.{Reason}
@@ -33,18 +34,18 @@ module _ (M : Payload ℕ) (z : Size) where
       (place : ℕ) (closing : Result ℕ RecordingFault) (f : RecordingFault) → ending place (outcomes_from M z h.state cs) closing ≡ Err f
       → ((closing ≡ Err f) × (reads M z h.state cs ≡ cs))
       ⊎ ((e : Refusal) × (c : Call) × (after : List Call) × (cs ≡ reads M z h.state cs ++ c ∷ after)
-      × (refusal M z (run_from M z h (reads M z h.state cs)).state c.unit c.act ≡ Some e) × (Refused e ≡ f.reason) × (f.place ≡ place + call_size * length (reads M z h.state cs)))
+      × (refusal M z (run_from M z h (reads M z h.state cs)).state c.unit c.event ≡ Some e) × (Refused e ≡ f.reason) × (f.place ≡ place + call_size * length (reads M z h.state cs)))
 
   pub break_off : (h : History ℕ) (cs : List Call) → BreakOff h cs
   break_off = by_calls M z BreakOff (λ h place closing f is. inl (is, refl)) if_accepted if_refused
     where
-      if_accepted : (h : History ℕ) (c : Call) (cs : List Call) → refusal M z h.state c.unit c.act ≡ None → BreakOff (taken M z h c) cs → BreakOff h (c ∷ cs)
+      if_accepted : (h : History ℕ) (c : Call) (cs : List Call) → refusal M z h.state c.unit c.event ≡ None → BreakOff (taken M z h c) cs → BreakOff h (c ∷ cs)
       if_accepted h c cs allowed ih = rw (allowed, allowed) (λ place closing f is. elim (ih (place + call_size) closing f is) [
         | inl (closes, whole) ↦ inl (closes, ap (λ (l : List Call). c ∷ l) whole)
         | inr (e, d, after, split, refused_so, reason, there) ↦ inr (e, d, after, ap (λ (l : List Call). c ∷ l) split, refused_so, reason, omega arith)
       ])
 
-      if_refused : (h : History ℕ) (c : Call) (cs : List Call) (x : Refusal) → refusal M z h.state c.unit c.act ≡ Some x → BreakOff h cs → BreakOff h (c ∷ cs)
+      if_refused : (h : History ℕ) (c : Call) (cs : List Call) (x : Refusal) → refusal M z h.state c.unit c.event ≡ Some x → BreakOff h cs → BreakOff h (c ∷ cs)
       if_refused h c cs x refused_so same = rw refused_so (λ place closing f is.
           let (reason, there) = same_break (Refused x) place f is in
           inr (x, c, cs, refl, refused_so, reason, omega arith))
@@ -82,10 +83,10 @@ module _ (b : List ℕ) where
   -- a board that is made
   module _ (n k : ℕ) (rest : List ℕ) (first : first_command bytes ≡ Ok (commands.Make n k, rest)) (made : make_refusal n k true ≡ None) (f : RecordingFault) where
     abbrev M : Payload ℕ
-    M = carrying (judge_in b) n
+    M = measured_payload (judge_in b) n
 
     abbrev z : Size
-    z = sized (judge_in b) n k most_marks
+    z = measured_size (judge_in b) n k most_marks
 
     abbrev t : Transcript
     t = transcript_on (judge_in b) (some_in b) (all_in b) n k (new_state M) (recording_at b + making_size) rest
@@ -139,7 +140,7 @@ module _ (b : List ℕ) where
     -- Where a board's calls break off, they are those before the break, and what stands there is a reason.
     on_board : t.end ≡ Err f → (t.calls ≡ calls_in (drop (recording_at b + making_size) (take f.place b))) × Breaks b f.place f.reason
     on_board ends =
-        let left = travelling (state_from M z (new_state M) (calls_in rest)).posts k in
+        let left = left_among (state_from M z (new_state M) (calls_in rest)).posts k in
         elim (break_off M z (new_history M) (calls_in rest) (recording_at b + making_size) (end_after_calls left last (first_command tail)) f ends) [
           | inl (closes_so, whole) ↦
               let same : length t.calls ≡ length (calls_in rest) = ap length whole in

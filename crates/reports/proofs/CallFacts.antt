@@ -4,14 +4,16 @@
 use Rattle.std.proofs.Common.{◌≡◌, ℕ, zero, suc, ◌+◌, ◌*◌, ◌<◌, Bool, List, [], ◌∷◌, ◌++◌, length, drop, take, Some, None, Ok, Err, Option, Result, refl, sym, ap, ◌∙◌, arith}
 use Rattle.std.proofs.lemmas.List.{drop-drop}
 use Rattle.history.specs.declared.refusals.Refusal.{Refusal}
-use Rattle.history.specs.Board.{State, Answer, next, outcome, outcomes_from, state_from}
-use Rattle.history.specs.Events.{Event}
+use Rattle.history.specs.Board.{State, next, outcome, outcomes_from, state_from}
+use Rattle.history.specs.declared.calls.Answer.{Answer}
+use Rattle.history.specs.declared.calls.Event.{Event}
 use Rattle.history.specs.Rows.{Payload}
-use Rattle.history.specs.Runs.{Size, Call}
+use Rattle.history.specs.Runs.{Size}
+use Rattle.history.specs.declared.Call.{Call}
 use Rattle.history.specs.Limits.{most_marks}
-use Rattle.causality.specs.Boards.{travelling}
+use Rattle.causality.specs.Boards.{left_among}
 use Rattle.measures.specs.Measures.{Meaning}
-use Rattle.measures.specs.Worths.{carrying, sized}
+use Rattle.measures.specs.Worths.{measured_payload, measured_size}
 use Rattle.reports.specs.declared.faults.Reason.TheVariants.{Refused}
 use Rattle.reports.specs.declared.faults.RecordingFault.{RecordingFault}
 use Rattle.reports.specs.declared.lines.MarkLine.{MarkLine}
@@ -77,10 +79,10 @@ transcript_with cs ls t = record { units = t.units; messages = t.messages; calls
 
 module _ (m : Meaning ℕ) (some all : ℕ → Bool) (n k : ℕ) (s : State ℕ) (place : ℕ) (bytes : List ℕ) where
   abbrev M : Payload ℕ
-  M = carrying m n
+  M = measured_payload m n
 
   abbrev z : Size
-  z = sized m n k most_marks
+  z = measured_size m n k most_marks
 
   -- the transcript if the bytes begin with these calls, which are answered so, and lead to this state
   abbrev transcript_by_answers : List Call → List (Result (Answer ℕ) Refusal) → State ℕ → Transcript
@@ -89,7 +91,7 @@ module _ (m : Meaning ℕ) (some all : ℕ → Bool) (n k : ℕ) (s : State ℕ)
     messages = k;
     calls = calls_before_refusal cs xs;
     lines = lines m some all cs xs;
-    end = ending place xs (end_after_calls (travelling t.posts k) (place + call_size * length cs) (first_command (drop (call_size * length cs) bytes)));
+    end = ending place xs (end_after_calls (left_among t.posts k) (place + call_size * length cs) (first_command (drop (call_size * length cs) bytes)));
   }
 
   -- the transcript if the bytes begin with these calls
@@ -97,8 +99,8 @@ module _ (m : Meaning ℕ) (some all : ℕ → Bool) (n k : ℕ) (s : State ℕ)
   transcript_of_calls cs = transcript_by_answers cs (outcomes_from M z s cs) (state_from M z s cs)
 
   -- Where there are no calls, the bytes close the recording.
-  pub transcript_on-no_call : calls_in bytes ≡ [] → transcript_on m some all n k s place bytes ≡ end_transcript n k (end_after_calls (travelling s.posts k) place (first_command bytes))
-  transcript_on-no_call none = ap transcript_of_calls none ∙ ap (λ (p : ℕ). end_transcript n k (end_after_calls (travelling s.posts k) p (first_command bytes))) (omega arith)
+  pub transcript_on-no_call : calls_in bytes ≡ [] → transcript_on m some all n k s place bytes ≡ end_transcript n k (end_after_calls (left_among s.posts k) place (first_command bytes))
+  transcript_on-no_call none = ap transcript_of_calls none ∙ ap (λ (p : ℕ). end_transcript n k (end_after_calls (left_among s.posts k) p (first_command bytes))) (omega arith)
 
   module _ (c : Call) (rest : List ℕ) (first : calls_in bytes ≡ c ∷ calls_in rest) where
     -- the transcript if the first call is answered so

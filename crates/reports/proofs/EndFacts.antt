@@ -7,18 +7,20 @@ use Rattle.std.proofs.Math.Path.{fun_ext}
 use Rattle.history.specs.declared.messages.Post.{Post}
 use Rattle.history.specs.declared.refusals.Refusal.{Refusal}
 use Rattle.history.specs.Counting.{Exactly, HowMany}
-use Rattle.history.specs.Events.{Event, Logs, send, at, Sent, Received}
+use Rattle.history.specs.Events.{Logs, at, Sent, Received}
+use Rattle.history.specs.declared.calls.Event.TheVariants.{Send}
+use Rattle.history.specs.declared.calls.Event.{Event}
 use Rattle.history.specs.Limits.{most_marks}
 use Rattle.history.specs.Messages.{travels, Stated}
 use Rattle.history.specs.Rows.{Payload}
-use Rattle.history.specs.Runs.{Size, Call, Possible, Continues, Run, silence, grown, by_unit, events_in}
-use Rattle.history.specs.Board.{State, Answer, new_state, new_history, next, outcome, outcomes_from, run, accepted, state_from}
-use Rattle.history.proofs.Accepting.{accepts_runs}
-use Rattle.history.proofs.Lists.{exactly_like}
-use Rattle.history.proofs.Posts.{travels_stated}
-use Rattle.causality.specs.Boards.{travelling}
+use Rattle.history.specs.Runs.{Size, Possible, Continues, Run, silence, grown, by_unit, events_in}
+use Rattle.history.specs.declared.Call.{Call}
+use Rattle.history.specs.Board.{State, new_state, new_history, next, outcome, outcomes_from, run, accepted, state_from}
+use Rattle.history.specs.declared.calls.Answer.{Answer}
+use Rattle.history.proofs.Promises.{accepts_runs, exactly_like, travels_stated}
+use Rattle.causality.specs.Boards.{left_among}
 use Rattle.measures.specs.Measures.{Meaning}
-use Rattle.measures.specs.Worths.{carrying, sized}
+use Rattle.measures.specs.Worths.{measured_payload, measured_size}
 use Rattle.reports.specs.declared.commands.Command.{Command}
 use Rattle.reports.specs.declared.commands.Command.TheVariants as commands
 use Rattle.reports.specs.declared.faults.Reason.{Reason}
@@ -54,27 +56,27 @@ module _ (posts : ℕ → Post) where
   )
 
   -- So many messages below k are on their way as are counted.
-  way_counted : (k : ℕ) → HowMany (OnWay k) (travelling posts k)
+  way_counted : (k : ℕ) → HowMany (OnWay k) (left_among posts k)
   way_counted zero = ([], record { sound = λ a m. absurd m; complete = λ a h. absurd (omega arith); once = tt }, refl)
-  way_counted (suc k) = let (l, x, e) = way_counted k in one_more k (travelling posts k) l x e (travels (posts k)) refl
+  way_counted (suc k) = let (l, x, e) = way_counted k in one_more k (left_among posts k) l x e (travels (posts k)) refl
 
 -- In a run only messages of the board are sent.
-sent_below : (z : Size) (logs : Logs) (cs : List Call) → Continues z logs cs → (u i p : ℕ) → at (by_unit cs) u i ≡ Some (send p) → p < z.messages
+sent_below : (z : Size) (logs : Logs) (cs : List Call) → Continues z logs cs → (u i p : ℕ) → at (by_unit cs) u i ≡ Some (Send p) → p < z.messages
 sent_below z logs [] r u i p e = cc
-sent_below z logs (c ∷ cs) r u i p e = go (u == c.unit) i e (λ j. sent_below z (grown logs c.unit c.act) cs r.1 u j p)
+sent_below z logs (c ∷ cs) r u i p e = go (u == c.unit) i e (λ j. sent_below z (grown logs c.unit c.event) cs r.1 u j p)
   where
-    first : c.act ≡ send p → p < z.messages
+    first : c.event ≡ Send p → p < z.messages
     first e = (subst (λ (x : Event). Possible z logs c.unit x) e r.0).1
 
-    go : (b : Bool) (i : ℕ) → slice_get (if b then c.act ∷ by_unit cs u else by_unit cs u) i ≡ Some (send p)
-        → ((j : ℕ) → at (by_unit cs) u j ≡ Some (send p) → p < z.messages) → p < z.messages
+    go : (b : Bool) (i : ℕ) → slice_get (if b then c.event ∷ by_unit cs u else by_unit cs u) i ≡ Some (Send p)
+        → ((j : ℕ) → at (by_unit cs) u j ≡ Some (Send p) → p < z.messages) → p < z.messages
     go true zero e rest = first cc
     go true (suc i) e rest = rest i e
     go false i e rest = rest i e
 
 module _ {V : Type 0} (M : Payload V) (z : Size) where
   -- After calls that are all accepted, so many messages are sent and not received as are counted on their way.
-  run_counted : (cs : List Call) → accepted M z cs ≡ cs → HowMany (λ p. Sent (at (by_unit cs)) p × (Received (at (by_unit cs)) p → ⊥)) (travelling (run M z cs).state.posts z.messages)
+  run_counted : (cs : List Call) → accepted M z cs ≡ cs → HowMany (λ p. Sent (at (by_unit cs)) p × (Received (at (by_unit cs)) p → ⊥)) (left_among (run M z cs).state.posts z.messages)
   run_counted cs whole =
       let (l, x, e) = way_counted (run M z cs).state.posts z.messages in
       (l, exactly_like (λ p h. (stated p).0 h.1) (λ p h. (below p h.0, (stated p).1 h)) l x, e)
@@ -111,17 +113,17 @@ end_after_calls-ok left place (Ok (commands.Call c, rest)) x ends = cc
 
 module _ (m : Meaning ℕ) (some all : ℕ → Bool) where
   -- Where a recording on a board ends well, it leaves the messages on their way after the calls read.
-  left_on : (n k place : ℕ) (bytes : List ℕ) (x : ℕ) → (transcript_on m some all n k (new_state (carrying m n)) place bytes).end ≡ Ok x
-      → x ≡ travelling (run (carrying m n) (sized m n k most_marks) (transcript_on m some all n k (new_state (carrying m n)) place bytes).calls).state.posts k
+  left_on : (n k place : ℕ) (bytes : List ℕ) (x : ℕ) → (transcript_on m some all n k (new_state (measured_payload m n)) place bytes).end ≡ Ok x
+      → x ≡ left_among (run (measured_payload m n) (measured_size m n k most_marks) (transcript_on m some all n k (new_state (measured_payload m n)) place bytes).calls).state.posts k
   left_on n k place bytes x ends =
-      let M = carrying m n in
-      let z = sized m n k most_marks in
+      let M = measured_payload m n in
+      let z = measured_size m n k most_marks in
       let cs = calls_in bytes in
       let after = first_command (drop (call_size * length cs) bytes) in
-      let (closes, whole) = ending_ok M z cs (new_state M) place x (end_after_calls (travelling (state_from M z (new_state M) cs).posts k) (place + call_size * length cs) after) ends in
+      let (closes, whole) = ending_ok M z cs (new_state M) place x (end_after_calls (left_among (state_from M z (new_state M) cs).posts k) (place + call_size * length cs) after) ends in
       sym (end_after_calls-ok _ _ _ x closes).1
-      ∙ ap (λ (s : State ℕ). travelling s.posts k) (last_run M z cs)
-      ∙ ap (λ (l : List Call). travelling (run M z l).state.posts k) (sym whole)
+      ∙ ap (λ (s : State ℕ). left_among s.posts k) (last_run M z cs)
+      ∙ ap (λ (l : List Call). left_among (run M z l).state.posts k) (sym whole)
 
   -- Where any recording ends well, all of its calls are read.
   transcript_whole : (place : ℕ) (bytes : List ℕ) (left : ℕ) → (transcript m some all place bytes).end ≡ Ok left → (transcript m some all place bytes).calls ≡ calls_in (drop making_size bytes)
@@ -129,7 +131,7 @@ module _ (m : Meaning ℕ) (some all : ℕ → Bool) where
     | inl (reason, is) ↦ subst Whole (sym is) (λ left ends. cc)
     | inr (n, k, rest, first, made, is) ↦ subst Whole (sym is) (λ left ends.
         let (none, x, same, whatever) = begins bytes _ first in
-        (ending_ok (carrying m n) (sized m n k most_marks) (calls_in rest) (new_state (carrying m n)) (place + making_size) left _ ends).1 ∙ ap (λ (ys : List ℕ). calls_in (drop making_size ys)) (sym same))
+        (ending_ok (measured_payload m n) (measured_size m n k most_marks) (calls_in rest) (new_state (measured_payload m n)) (place + making_size) left _ ends).1 ∙ ap (λ (ys : List ℕ). calls_in (drop making_size ys)) (sym same))
   ]
     where
       Whole : Transcript → Type 0
@@ -144,7 +146,7 @@ module _ (m : Meaning ℕ) (some all : ℕ → Bool) where
   transcript_leaves place bytes = elim (transcript_cases m some all place bytes) [
     | inl (reason, is) ↦ subst Leaves (sym is) (λ left ends. cc)
     | inr (n, k, rest, first, made, is) ↦ subst Leaves (sym is) (λ left ends. subst (HowMany _) (sym (left_on n k (place + making_size) rest left ends))
-        (run_counted (carrying m n) (sized m n k most_marks) _ (reads_ok (carrying m n) (sized m n k most_marks) (new_history (carrying m n)) (calls_in rest))))
+        (run_counted (measured_payload m n) (measured_size m n k most_marks) _ (reads_ok (measured_payload m n) (measured_size m n k most_marks) (new_history (measured_payload m n)) (calls_in rest))))
   ]
 
 -- Where a recording ends well, the messages that were sent and not received are counted.
@@ -163,7 +165,7 @@ ended b left ends = elim (transcript_cases (judge_in b) (some_in b) (all_in b) (
   | inr (n, k, rest, first, made, is) ↦
       let (none, x, same, whatever) = begins (drop (recording_at b) b) _ first in
       let cs = calls_in rest in
-      let (closes, whole) = ending_ok (carrying (judge_in b) n) (sized (judge_in b) n k most_marks) cs (new_state (carrying (judge_in b) n)) (recording_at b + making_size) left _ (sym (ap (λ (is : Transcript). is.end) is) ∙ ends) in
+      let (closes, whole) = ending_ok (measured_payload (judge_in b) n) (measured_size (judge_in b) n k most_marks) cs (new_state (measured_payload (judge_in b) n)) (recording_at b + making_size) left _ (sym (ap (λ (is : Transcript). is.end) is) ∙ ends) in
       let there = after_making (recording_at b) b rest (sym (ap (drop making_size) same)) (call_size * length cs) (recording_at b + making_size + call_size * length cs) refl in (
         recording_at b + making_size + call_size * length cs,
         (n, k, rest, first, made, ap (λ (l : List Call). recording_at b + making_size + call_size * length l) (sym (ap (λ (is : Transcript). is.calls) is ∙ whole))),

@@ -4,8 +4,7 @@ use Rattle.std.specs.Option.{option_map, option_or}
 use Rattle.std.proofs.lemmas.Bool.{and_parts, leb-true, ltb-true}
 use Rattle.measures.specs.Formats.{states_in, labels_in, start_in, table_in, relabelling_labels_in, padded, first_over, over_fault, table_fault, head_fault, pattern_fault, relabelling_head_fault, relabelling_fault}
 use Rattle.measures.specs.Refusals.{counted}
-use Rattle.measures.proofs.Reading.{below_bound}
-use Rattle.measures.proofs.Recognizing.{padded_complete}
+use Rattle.measures.proofs.Promises.{below_bound, padded_complete}
 use Rattle.reports.specs.declared.faults.Fault.TheVariants.{Pattern, Relabelling}
 use Rattle.text.specs.Inputs.{most_bytes}
 use Rattle.reports.specs.Reports.{relabelling_at, front_fault}

@@ -4,15 +4,15 @@ use Rattle.std.specs.List.{slice_get}
 use Rattle.std.proofs.Math.Path.{fun_ext}
 use Rattle.std.proofs.lemmas.Bool.{eq-eqb}
 use Rattle.std.proofs.lemmas.Option.{same_Some}
-use Rattle.history.specs.Events.{Events, Event, Logs, at, mark}
+use Rattle.history.specs.Events.{Events, Logs, at}
+use Rattle.history.specs.declared.calls.Event.TheVariants.{Mark}
+use Rattle.history.specs.declared.calls.Event.{Event}
 use Rattle.history.specs.Rows.{Payload}
-use Rattle.history.specs.Runs.{Size, Call, by_unit, grown, call, events_in}
+use Rattle.history.specs.Runs.{Size, by_unit, grown, call, events_in}
+use Rattle.history.specs.declared.Call.{Call}
 use Rattle.history.specs.Board.{History, Reply, new_history, acted, answer_to, reply, refusal, run}
 use Rattle.history.specs.Laws.{happened}
-use Rattle.history.proofs.Accepting.{accepts_runs}
-use Rattle.history.proofs.Logs.{grown_here}
-use Rattle.history.proofs.Runs.{after_taken, run_push}
-use Rattle.history.proofs.Told.{said_run}
+use Rattle.history.proofs.Promises.{accepts_runs, grown_here, after_taken, run_push, replies_as_long}
 use Rattle.reports.proofs.TranscriptFacts.{AllTaken, taken_accepted}
 use Rattle.reports.proofs.LineFacts.{taken_both}
 
@@ -26,39 +26,39 @@ by_unit_push : (cs : List Call) (u : ℕ) (e : Event) → by_unit (cs ++ call u 
 by_unit_push [] u e = ap (λ (t : Bool). if t then e ∷ [] else []) (eq-eqb u u refl)
 by_unit_push (c ∷ cs) u e = pushed (u == c.unit) _ (by_unit cs u) (by_unit_push cs u e)
   where
-    pushed : (t : Bool) (xs ys : List Event) → xs ≡ ys ++ e ∷ [] → (if t then c.act ∷ xs else xs) ≡ (if t then c.act ∷ ys else ys) ++ e ∷ []
-    pushed true xs ys p = ap (λ (es : List Event). c.act ∷ es) p
+    pushed : (t : Bool) (xs ys : List Event) → xs ≡ ys ++ e ∷ [] → (if t then c.event ∷ xs else xs) ≡ (if t then c.event ∷ ys else ys) ++ e ∷ []
+    pushed true xs ys p = ap (λ (es : List Event). c.event ∷ es) p
     pushed false xs ys p = p
 
 -- some calls, and then a mark of unit u
 abbrev pub with_mark : List Call → ℕ → ℕ → List Call
-with_mark before u l = before ++ call u (mark l) ∷ []
+with_mark before u l = before ++ call u (Mark l) ∷ []
 
 module _ {V : Type 0} (M : Payload V) (z : Size) where
   -- The log of accepted calls is these calls unit by unit.
   pub log_is : (cs : List Call) → AllTaken M z (new_history M) cs → (run M z cs).log ≡ by_unit cs
   log_is cs taken = fun_ext (λ u. (accepts_runs M z cs).logged u ∙ ap (λ (l : List Call). by_unit l u) (taken_accepted M z (new_history M) cs taken))
 
-  module _ (before : List Call) (u l : ℕ) (taken : AllTaken M z (new_history M) before) (allowed : refusal M z (run M z before).state u (mark l) ≡ None) where
+  module _ (before : List Call) (u l : ℕ) (taken : AllTaken M z (new_history M) before) (allowed : refusal M z (run M z before).state u (Mark l) ≡ None) where
     -- All of the calls are accepted.
     all_taken : AllTaken M z (new_history M) (with_mark before u l)
-    all_taken = taken_both M z (new_history M) before (call u (mark l) ∷ []) taken (allowed, tt)
+    all_taken = taken_both M z (new_history M) before (call u (Mark l) ∷ []) taken (allowed, tt)
 
     -- The events of the run are those of the calls, and the mark stands there.
     pub events_are : happened M z (with_mark before u l) ≡ events_in (with_mark before u l)
     events_are = ap at (log_is (with_mark before u l) all_taken)
 
-    pub mark_there : happened M z (with_mark before u l) u (length (by_unit before u)) ≡ Some (mark l)
-    mark_there = ap (λ (ev : Events). ev u (length (by_unit before u))) events_are ∙ ap (λ (es : List Event). slice_get es (length (by_unit before u))) (by_unit_push before u (mark l)) ∙ seam (by_unit before u) (mark l) []
+    pub mark_there : happened M z (with_mark before u l) u (length (by_unit before u)) ≡ Some (Mark l)
+    mark_there = ap (λ (ev : Events). ev u (length (by_unit before u))) events_are ∙ ap (λ (es : List Event). slice_get es (length (by_unit before u))) (by_unit_push before u (Mark l)) ∙ seam (by_unit before u) (Mark l) []
 
     -- What the history says that the mark was told is the answer to it.
     pub answer_is : (r : Reply V) → at (run M z (with_mark before u l)).told u (length (by_unit before u)) ≡ Some r
-        → r.answer ≡ answer_to M z u (mark l) ((run M z before).state.rows u) ((acted M z (run M z before).state u (mark l)).rows u)
+        → r.answer ≡ answer_to M z u (Mark l) ((run M z before).state.rows u) ((acted M z (run M z before).state u (Mark l)).rows u)
     answer_is r e =
         let h = run M z before in
-        let x = reply M z u (mark l) (h.state.rows u) ((acted M z h.state u (mark l)).rows u) in
-        let next = run_push M z before (call u (mark l)) ∙ after_taken M z h (call u (mark l)) allowed in
-        let last = (said_run M z before).as_long u ∙ ap (λ (logs : Logs). length (logs u)) (log_is before taken) in
+        let x = reply M z u (Mark l) (h.state.rows u) ((acted M z h.state u (Mark l)).rows u) in
+        let next = run_push M z before (call u (Mark l)) ∙ after_taken M z h (call u (Mark l)) allowed in
+        let last = replies_as_long M z before u ∙ ap (λ (logs : Logs). length (logs u)) (log_is before taken) in
         ap (λ (y : Reply V). y.answer)
         (same_Some _ _
         (sym e

@@ -1,10 +1,13 @@
 -- Lists of calls that are all accepted: their parts, and the lines of their marks.
 use Rattle.std.proofs.Common.{◌≡◌, ℕ, ◌+◌, Bool, List, [], ◌∷◌, ◌++◌, length, Some, None, Option, refl, sym, ap, ap₂, ◌∙◌, append_assoc, length-append}
 use Rattle.history.specs.declared.refusals.Refusal.{Refusal}
-use Rattle.history.specs.Events.{Event, send, receive, mark}
+use Rattle.history.specs.declared.calls.Event.TheVariants.{Mark, Receive, Send}
+use Rattle.history.specs.declared.calls.Event.{Event}
 use Rattle.history.specs.Marks.{tick}
-use Rattle.history.specs.Rows.{Payload, Cell}
-use Rattle.history.specs.Runs.{Size, Call}
+use Rattle.history.specs.Rows.{Payload}
+use Rattle.history.specs.declared.cells.Cell.{Cell}
+use Rattle.history.specs.Runs.{Size}
+use Rattle.history.specs.declared.Call.{Call}
 use Rattle.history.specs.Board.{History, acted, answer_to, answered, next, refusal, outcomes_from, after, run_from}
 use Rattle.measures.specs.Measures.{Meaning}
 use Rattle.reports.specs.declared.lines.MarkLine.{MarkLine}
@@ -28,12 +31,12 @@ module _ (m : Meaning ℕ) (some all : ℕ → Bool) (M : Payload ℕ) (z : Size
   lines_at h cs = lines m some all cs (outcomes_from M z h.state cs)
 
   abbrev pub line_at : History ℕ → Call → List MarkLine
-  line_at h c = line m some all c.unit (answer_to M z c.unit c.act (h.state.rows c.unit) ((acted M z h.state c.unit c.act).rows c.unit))
+  line_at h c = line m some all c.unit (answer_to M z c.unit c.event (h.state.rows c.unit) ((acted M z h.state c.unit c.event).rows c.unit))
 
   -- An accepted call's line stands before those of the calls after it.
-  pub lines_more : (h : History ℕ) (c : Call) (cs : List Call) → refusal M z h.state c.unit c.act ≡ None → lines_at h (c ∷ cs) ≡ line_at h c ++ lines_at (after M z h c) cs
+  pub lines_more : (h : History ℕ) (c : Call) (cs : List Call) → refusal M z h.state c.unit c.event ≡ None → lines_at h (c ∷ cs) ≡ line_at h c ++ lines_at (after M z h c) cs
   lines_more h c cs allowed =
-      ap (λ (o : Option Refusal). lines m some all (c ∷ cs) (answered o (answer_to M z c.unit c.act (h.state.rows c.unit) ((acted M z h.state c.unit c.act).rows c.unit)) ∷ outcomes_from M z (next M z h.state c) cs)) allowed
+      ap (λ (o : Option Refusal). lines m some all (c ∷ cs) (answered o (answer_to M z c.unit c.event (h.state.rows c.unit) ((acted M z h.state c.unit c.event).rows c.unit)) ∷ outcomes_from M z (next M z h.state c) cs)) allowed
 
   -- The lines of accepted calls and of those after them: the lines of the first and then of the others.
   pub lines_append : (h : History ℕ) (cs ds : List Call) → AllTaken M z h cs → lines_at h (cs ++ ds) ≡ lines_at h cs ++ lines_at (run_from M z h cs) ds
@@ -46,9 +49,9 @@ module _ (m : Meaning ℕ) (some all : ℕ → Bool) (M : Payload ℕ) (z : Size
 
   -- Only a mark has a line.
   line_counted : (u : ℕ) (e : Event) (r t : ℕ → Cell ℕ) → length (line m some all u (answer_to M z u e r t)) ≡ tick (Some e)
-  line_counted u (send p) r t = refl
-  line_counted u (receive p) r t = refl
-  line_counted u (mark l) r t = refl
+  line_counted u (Send p) r t = refl
+  line_counted u (Receive p) r t = refl
+  line_counted u (Mark l) r t = refl
 
   -- There are as many lines of accepted calls as marks.
   pub lines_count : (h : History ℕ) (cs : List Call) → AllTaken M z h cs → length (lines_at h cs) ≡ marks_among cs
@@ -56,4 +59,4 @@ module _ (m : Meaning ℕ) (some all : ℕ → Bool) (M : Payload ℕ) (z : Size
   lines_count h (c ∷ cs) taken =
       ap length (lines_more h c cs taken.0)
       ∙ length-append (line_at h c) (lines_at (after M z h c) cs)
-      ∙ ap₂ ◌+◌ (line_counted c.unit c.act (h.state.rows c.unit) ((acted M z h.state c.unit c.act).rows c.unit)) (lines_count (after M z h c) cs taken.1)
+      ∙ ap₂ ◌+◌ (line_counted c.unit c.event (h.state.rows c.unit) ((acted M z h.state c.unit c.event).rows c.unit)) (lines_count (after M z h c) cs taken.1)

@@ -6,10 +6,9 @@ use Rattle.history.specs.declared.messages.Post.{Post}
 use Rattle.history.specs.declared.refusals.Refusal.{Refusal}
 use Rattle.history.specs.Limits.{most_units, most_messages}
 use Rattle.history.specs.Board.{new_state}
-use Rattle.causality.specs.Boards.{Memory, fits_board, make_refusal}
-use Rattle.causality.specs.Calls.{lent, has_room}
+use Rattle.causality.specs.Boards.{Memory, has_all_rows, make_refusal, has_room, memory}
 use Rattle.measures.specs.Measures.{Meaning}
-use Rattle.measures.specs.Worths.{carrying}
+use Rattle.measures.specs.Worths.{measured_payload}
 use Rattle.reports.specs.declared.commands.Command.TheVariants as commands
 use Rattle.reports.specs.declared.faults.RecordingFault.{RecordingFault}
 use Rattle.reports.specs.declared.faults.Reason.TheVariants.{Refused}
@@ -32,18 +31,18 @@ module _ (n k : ℕ) (few_messages : k ≤ most_messages) where
   long : n ≤ most_units → (n + k) * n ≤ most_cells
   long few = le_trans (mul-le-mul_right n (omega (arith, few, few_messages))) (mul-le-mul_left (most_units + most_messages) few)
 
-  fits : n ≤ most_units → {X : Type 0} (g : Grid X) → g.width ≡ n → length g.cells.now ≡ most_cells → fits_board n k g ≡ true
+  fits : n ≤ most_units → {X : Type 0} (g : Grid X) → g.width ≡ n → length g.cells.now ≡ most_cells → has_all_rows n k g ≡ true
   fits few g wide cells = rw (wide, cells, eq-eqb n n refl) (le-leb ((n + k) * n) most_cells (long few))
 
   pub made_by_size : (clocks : Grid ℕ) (flags : Grid Bool) (values : Grid ℕ) (posts : List Post) → clocks.width ≡ n → flags.width ≡ n → values.width ≡ n
       → length clocks.cells.now ≡ most_cells → length flags.cells.now ≡ most_cells → length values.cells.now ≡ most_cells → length posts ≡ most_messages
-      → make_refusal n k (has_room n k (lent clocks flags values posts)) ≡ make_refusal n k true
+      → make_refusal n k (has_room n k (memory clocks flags values posts)) ≡ make_refusal n k true
   made_by_size clocks flags values posts cw fw vw cl fl vl pl = go (leb n most_units) refl
     where
-      rooms : n ≤ most_units → has_room n k (lent clocks flags values posts) ≡ true
+      rooms : n ≤ most_units → has_room n k (memory clocks flags values posts) ≡ true
       rooms few = rw (fits few clocks cw cl, fits few flags fw fl, fits few values vw vl, pl) (le-leb k most_messages few_messages)
 
-      go : (t : Bool) → leb n most_units ≡ t → make_refusal n k (has_room n k (lent clocks flags values posts)) ≡ make_refusal n k true
+      go : (t : Bool) → leb n most_units ≡ t → make_refusal n k (has_room n k (memory clocks flags values posts)) ≡ make_refusal n k true
       go true e = ap (make_refusal n k) (rooms (leb-true n most_units e))
       go false e = rw (e, and_false (leb 1 n)) refl
 
@@ -60,7 +59,7 @@ module _ (m : Meaning ℕ) (some all : ℕ → Bool) (place : ℕ) (bytes rest :
       (sym (append-nil old) ∙ ap (λ (t : Transcript). old ++ mark_lines t.lines) (sym nothing), so ∙ ap (λ (t : Transcript). t.end) (sym nothing))
 
   -- A board that is made is handed the rest.
-  pub board_made : make_refusal n k true ≡ None → (old new : List ℕ) (result : Result ℕ RecordingFault) → Wrote old new (transcript_on m some all n k (new_state (carrying m n)) (place + making_size) rest) result
+  pub board_made : make_refusal n k true ≡ None → (old new : List ℕ) (result : Result ℕ RecordingFault) → Wrote old new (transcript_on m some all n k (new_state (measured_payload m n)) (place + making_size) rest) result
       → Wrote old new (transcript m some all place bytes) result
   board_made is old new result tells = subst (λ (t : Transcript). Wrote old new t result) (sym (transcript-making None is)) tells
 

@@ -8,22 +8,23 @@ use Rattle.std.proofs.Math.Path.{fun_ext}
 use Rattle.std.proofs.lemmas.List.{length-map}
 use Rattle.std.proofs.lemmas.Option.{same_Some, slice_get-map}
 use Rattle.bitset.proofs.Members.{same_members}
-use Rattle.history.specs.Board.{Answer, Reply, marked, outcomes, run, accepted}
+use Rattle.history.specs.Board.{Reply, mark_answer, outcomes, run, accepted}
+use Rattle.history.specs.declared.calls.Answer.{Answer}
 use Rattle.history.specs.Counting.{Exactly}
-use Rattle.history.specs.Events.{Event, Events, Logs, at, send, receive, mark}
+use Rattle.history.specs.Events.{Events, Logs, at}
+use Rattle.history.specs.declared.calls.Event.TheVariants.{Mark, Receive, Send}
+use Rattle.history.specs.declared.calls.Event.{Event}
 use Rattle.history.specs.Flows.{Longest}
 use Rattle.history.specs.HappenedBefore.{Immediate}
 use Rattle.history.specs.Laws.{answers_of, message_told}
 use Rattle.history.specs.Marks.{marks}
 use Rattle.history.specs.Rows.{Payload}
-use Rattle.history.specs.Runs.{Size, Call, SameByUnit, by_unit}
-use Rattle.history.proofs.Accepting.{accepts_runs}
-use Rattle.history.proofs.Answering.{messages_answered}
-use Rattle.history.proofs.Outcomes.{outcomes_told}
-use Rattle.history.proofs.Told.{said_run}
+use Rattle.history.specs.Runs.{Size, SameByUnit, by_unit}
+use Rattle.history.specs.declared.Call.{Call}
+use Rattle.history.proofs.Promises.{accepts_runs, messages_answered, outcomes_told, replies_as_long}
 use Rattle.measures.specs.Laws.{Valued, MarksValued, join_over}
 use Rattle.measures.specs.Measures.{Meaning}
-use Rattle.measures.specs.Worths.{carrying, sized}
+use Rattle.measures.specs.Worths.{measured_payload, measured_size}
 
 -- Two lists are equal that are as long as a third and hold the same at each of its indexes.
 by_places : {A B : Type 0} (es : List B) (xs ys : List A) → length xs ≡ length es → length ys ≡ length es
@@ -36,22 +37,22 @@ by_places (e ∷ es) (x ∷ xs) [] p q each = cc
 by_places (e ∷ es) (x ∷ xs) (y ∷ ys) p q each = ap₂ ◌∷◌ (same_Some _ _ (each 0 e refl)) (by_places es xs ys (cc) (cc) (λ i. each (suc i)))
 
 -- Marks whose three parts are the same are answered the same.
-same_marked : {V : Type 0} (c d p q : ℕ) (x y : V) → c ≡ d → p ≡ q → x ≡ y → marked c p x ≡ marked d q y
+same_marked : {V : Type 0} (c d p q : ℕ) (x y : V) → c ≡ d → p ≡ q → x ≡ y → mark_answer c p x ≡ mark_answer d q y
 same_marked c d p q x y same_clock same_predecessors same_value = cc
 
 module _ {V : Type 0} (m : Meaning V) (valued : MarksValued m) (limit n k n' k' : ℕ) (cs ds : List Call)
-    (whole : accepted (carrying m n) (sized m n k limit) cs ≡ cs) (whole' : accepted (carrying m n') (sized m n' k' limit) ds ≡ ds) (same : SameByUnit cs ds) where
+    (whole : accepted (measured_payload m n) (measured_size m n k limit) cs ≡ cs) (whole' : accepted (measured_payload m n') (measured_size m n' k' limit) ds ≡ ds) (same : SameByUnit cs ds) where
   abbrev M : Payload V
-  M = carrying m n
+  M = measured_payload m n
 
   abbrev z : Size
-  z = sized m n k limit
+  z = measured_size m n k limit
 
   abbrev M' : Payload V
-  M' = carrying m n'
+  M' = measured_payload m n'
 
   abbrev z' : Size
-  z' = sized m n' k' limit
+  z' = measured_size m n' k' limit
 
   -- The same is logged on both boards.
   logs : (run M z cs).log ≡ (run M' z' ds).log
@@ -82,13 +83,13 @@ module _ {V : Type 0} (m : Meaning V) (valued : MarksValued m) (limit n k n' k' 
     answer_there replies a stamp stands = slice_get-map (λ (r : Reply V). r.answer) replies i ∙ ap (option_map (λ (r : Reply V). r.answer)) stands
 
     -- A mark is answered the same on both boards.
-    marks_same : (l : ℕ) → ev u i ≡ Some (mark l) → slice_get (answers u) i ≡ slice_get (answers' u) i
+    marks_same : (l : ℕ) → ev u i ≡ Some (Mark l) → slice_get (answers u) i ≡ slice_get (answers' u) i
     marks_same l is_mark =
         let on_first : Valued m n k limit cs u i = valued n k limit cs u i l is_mark in
-        let on_second : Valued m n' k' limit ds u i = valued n' k' limit ds u i l (subst (λ (x : Events). x u i ≡ Some (mark l)) events is_mark) in
+        let on_second : Valued m n' k' limit ds u i = valued n' k' limit ds u i l (subst (λ (x : Events). x u i ≡ Some (Mark l)) events is_mark) in
         let first = on_first.answered in
         let second = on_second.answered in
-        answer_there ((run M z cs).told u) (marked first.clock first.predecessors first.value) first.stamp first.told
+        answer_there ((run M z cs).told u) (mark_answer first.clock first.predecessors first.value) first.stamp first.told
         ∙ ap Some (same_marked first.clock second.clock first.predecessors second.predecessors first.value second.value
         (first.clock_is ∙ ap (λ (x : Events). marks x u (suc i)) events ∙ sym second.clock_is)
         (same_members first.predecessors second.predecessors
@@ -96,29 +97,29 @@ module _ {V : Type 0} (m : Meaning V) (valued : MarksValued m) (limit n k n' k' 
         (λ q member. (first.predecessors_are q).1 (subst (λ (x : Events). (j : ℕ) × Immediate x q j u i) (sym events) ((second.predecessors_are q).0 member))))
         (on_first.value_is ∙ ap (λ (x : Events). join_over m x on_first.flow on_first.flows) events
         ∙ sym (on_second.value_any on_first.flow on_first.flows (subst (λ (x : Events). Exactly (Longest x u i) (on_first.flow ∷ on_first.flows)) events on_first.all))))
-        ∙ sym (answer_there ((run M' z' ds).told u) (marked second.clock second.predecessors second.value) second.stamp second.told)
+        ∙ sym (answer_there ((run M' z' ds).told u) (mark_answer second.clock second.predecessors second.value) second.stamp second.told)
 
     -- So is a send or a receipt.
-    messages_same : (p : ℕ) → (ev u i ≡ Some (send p)) ⊎ (ev u i ≡ Some (receive p)) → slice_get (answers u) i ≡ slice_get (answers' u) i
+    messages_same : (p : ℕ) → (ev u i ≡ Some (Send p)) ⊎ (ev u i ≡ Some (Receive p)) → slice_get (answers u) i ≡ slice_get (answers' u) i
     messages_same p is_message =
         let (stamp, said) = messages_answered V M z cs u i p is_message in
-        let (stamp', said') = messages_answered V M' z' ds u i p (subst (λ (x : Events). (x u i ≡ Some (send p)) ⊎ (x u i ≡ Some (receive p))) events is_message) in
+        let (stamp', said') = messages_answered V M' z' ds u i p (subst (λ (x : Events). (x u i ≡ Some (Send p)) ⊎ (x u i ≡ Some (Receive p))) events is_message) in
         answer_there ((run M z cs).told u) (message_told ev u i) stamp said
         ∙ ap (λ (x : Events). Some (message_told x u i)) events
         ∙ sym (answer_there ((run M' z' ds).told u) (message_told ev' u i) stamp' said')
 
     -- Each call is answered the same on both boards.
     answer_same : (e : Event) → ev u i ≡ Some e → slice_get (answers u) i ≡ slice_get (answers' u) i
-    answer_same (send p) is = messages_same p (inl is)
-    answer_same (receive p) is = messages_same p (inr is)
-    answer_same (mark l) is = marks_same l is
+    answer_same (Send p) is = messages_same p (inl is)
+    answer_same (Receive p) is = messages_same p (inr is)
+    answer_same (Mark l) is = marks_same l is
 
   -- Each unit got the same answers.
   pub same_answers : (u : ℕ) → answers_of u cs (outcomes M z cs) ≡ answers_of u ds (outcomes M' z' ds)
   same_answers u =
       sym (outcomes_told V M z cs u)
       ∙ by_places ((run M z cs).log u) (answers u) (answers' u)
-      (length-map ((run M z cs).told u) (λ (r : Reply V). r.answer) ∙ (said_run M z cs).as_long u)
-      (length-map ((run M' z' ds).told u) (λ (r : Reply V). r.answer) ∙ (said_run M' z' ds).as_long u ∙ ap (λ (l : Logs). length (l u)) (sym logs))
+      (length-map ((run M z cs).told u) (λ (r : Reply V). r.answer) ∙ replies_as_long M z cs u)
+      (length-map ((run M' z' ds).told u) (λ (r : Reply V). r.answer) ∙ replies_as_long M' z' ds u ∙ ap (λ (l : Logs). length (l u)) (sym logs))
       (answer_same u)
       ∙ outcomes_told V M' z' ds u

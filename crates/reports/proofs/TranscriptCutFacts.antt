@@ -3,13 +3,14 @@
 -- once, or one byte later after an end; a call that is accepted has its line before a recording in the next state, which breaks off later.
 use Rattle.std.proofs.Common.{◌≡◌, ℕ, ◌+◌, ◌≤◌, Bool, List, [], ◌∷◌, length, drop, Ok, Err, Result, Some, None, Option, refl, sym, ap, ◌∙◌, subst, inl, inr, arith}
 use Rattle.history.specs.declared.refusals.Refusal.{Refusal}
-use Rattle.history.specs.Board.{State, Answer, next, new_state, outcome}
-use Rattle.history.specs.Events.{Event}
+use Rattle.history.specs.Board.{State, next, new_state, outcome}
+use Rattle.history.specs.declared.calls.Answer.{Answer}
+use Rattle.history.specs.declared.calls.Event.{Event}
 use Rattle.history.specs.Limits.{most_marks}
-use Rattle.causality.specs.Boards.{travelling}
+use Rattle.causality.specs.Boards.{left_among}
 use Rattle.history.specs.Runs.{call}
 use Rattle.measures.specs.Measures.{Meaning}
-use Rattle.measures.specs.Worths.{carrying, sized}
+use Rattle.measures.specs.Worths.{measured_payload, measured_size}
 use Rattle.reports.specs.declared.commands.Command.{Command}
 use Rattle.reports.specs.declared.commands.Command.TheVariants as commands
 use Rattle.reports.specs.declared.faults.Reason.{Reason}
@@ -47,7 +48,7 @@ module _ (m : Meaning ℕ) (some all : ℕ → Bool) where
       bare : (bytes : List ℕ) → calls_in bytes ≡ [] → (on s place bytes).end ≡ Err f → Cut (on s place) place bytes f
       bare bytes none ends = by_first bytes (first_command bytes) refl (transcript_on-no_call m some all n k s place bytes none) ends
         where
-          by_first : (bytes : List ℕ) (r : Result (Command × List ℕ) Reason) → first_command bytes ≡ r → on s place bytes ≡ end_transcript n k (end_after_calls (travelling s.posts k) place r)
+          by_first : (bytes : List ℕ) (r : Result (Command × List ℕ) Reason) → first_command bytes ≡ r → on s place bytes ≡ end_transcript n k (end_after_calls (left_among s.posts k) place r)
               → (on s place bytes).end ≡ Err f → Cut (on s place) place bytes f
           by_first bytes (Err reason) first is ends = at_once bytes reason is ends
           by_first bytes (Ok (commands.Make i j, ys)) first is ends = at_once bytes SecondBoard is ends
@@ -71,10 +72,10 @@ module _ (m : Meaning ℕ) (some all : ℕ → Bool) where
     transcript_on_cut s place (b ∷ (u ∷ [])) f ends = bare s place f (b ∷ u ∷ []) refl ends
     transcript_on_cut s place (b ∷ (u ∷ (x ∷ rest))) f ends = by_event (event_in b x) refl (λ t p. transcript_on_cut t p rest f)
       where
-        by_answer : (e : Event) → event_in b x ≡ Some e → (r : Result (Answer ℕ) Refusal) → outcome (carrying m n) (sized m n k most_marks) s (call u e) ≡ r → Breaking rest f
+        by_answer : (e : Event) → event_in b x ≡ Some e → (r : Result (Answer ℕ) Refusal) → outcome (measured_payload m n) (measured_size m n k most_marks) s (call u e) ≡ r → Breaking rest f
             → Cut (on s place) place (b ∷ u ∷ x ∷ rest) f
         by_answer e is (Ok a) answered later =
-            let t = next (carrying m n) (sized m n k most_marks) s (call u e) in
+            let t = next (measured_payload m n) (measured_size m n k most_marks) s (call u e) in
             let transcript_is : (ys : List ℕ) → on s place (b ∷ u ∷ x ∷ ys) ≡ transcript_with (call u e ∷ []) (line m some all u a) (on t (place + call_size) ys) =
             λ ys. transcript_on-accepted m some all n k s place (b ∷ u ∷ x ∷ ys) (call u e) ys (ap (λ (o : Option Event). calls_with_first u o (calls_in ys)) is) b u x refl a answered in
             later_cut (on s place) (on t (place + call_size)) place b u x (call u e ∷ []) (line m some all u a) transcript_is rest f
@@ -85,7 +86,7 @@ module _ (m : Meaning ℕ) (some all : ℕ → Bool) where
 
         by_event : (o : Option Event) → event_in b x ≡ o → Breaking rest f → Cut (on s place) place (b ∷ u ∷ x ∷ rest) f
         by_event None is later = bare s place f (b ∷ u ∷ x ∷ rest) (ap (λ (o : Option Event). calls_with_first u o (calls_in rest)) is) ends
-        by_event (Some e) is later = by_answer e is (outcome (carrying m n) (sized m n k most_marks) s (call u e)) refl later
+        by_event (Some e) is later = by_answer e is (outcome (measured_payload m n) (measured_size m n k most_marks) s (call u e)) refl later
 
   -- where a recording breaks off, it is cut there
   pub transcript_cut : (place : ℕ) (bytes : List ℕ) (f : RecordingFault) → (transcript m some all place bytes).end ≡ Err f → Cut (transcript m some all place) place bytes f
@@ -96,9 +97,9 @@ module _ (m : Meaning ℕ) (some all : ℕ → Bool) where
         (ap (λ (t : Transcript). t.calls) is, ap (λ (t : Transcript). t.lines) is) (refl, refl) (λ other agree. refl)
     | inr (n, k, rest, first, good, is) ↦
         let (none, b, same, whatever) = begins bytes _ first in
-        let further = transcript_on m some all n k (new_state (carrying m n)) (place + making_size) in
+        let further = transcript_on m some all n k (new_state (measured_payload m n)) (place + making_size) in
         let transcript_is : (zs : List ℕ) → transcript m some all place (b ∷ n ∷ k ∷ zs) ≡ further zs =
         λ zs. ap (transcript_from m some all place) (whatever zs) ∙ ap (transcript_of_board m some all n k place zs) good in
         subst (λ (l : List ℕ). Cut (transcript m some all place) place l f) (sym same)
-        (later_cut (transcript m some all place) further place b n k [] [] transcript_is rest f (transcript_on_cut n k (new_state (carrying m n)) (place + making_size) rest f (sym (ap (λ (t : Transcript). t.end) is) ∙ ends)))
+        (later_cut (transcript m some all place) further place b n k [] [] transcript_is rest f (transcript_on_cut n k (new_state (measured_payload m n)) (place + making_size) rest f (sym (ap (λ (t : Transcript). t.end) is) ∙ ends)))
   ]

@@ -2,12 +2,13 @@
 use Rattle.std.proofs.Common.{◌≡◌, ℕ, ◌+◌, Bool, ◌⊎◌, true, List, [], ◌∷◌, ◌++◌, Some, None, Ok, Err, Option, Result, refl, ap, ◌∙◌, inl, inr}
 use Rattle.history.specs.declared.refusals.Refusal.{Refusal}
 use Rattle.history.specs.Rows.{Payload}
-use Rattle.history.specs.Runs.{Size, Call}
+use Rattle.history.specs.Runs.{Size}
+use Rattle.history.specs.declared.Call.{Call}
 use Rattle.history.specs.Board.{History, State, new_state, new_history, acted, answer_to, outcomes_from, if_taken, refusal, after, run_from, run, accepted_from, state_from}
-use Rattle.history.proofs.Runs.{by_calls}
+use Rattle.history.proofs.Promises.{by_calls}
 use Rattle.causality.specs.Boards.{make_refusal}
 use Rattle.measures.specs.Measures.{Meaning}
-use Rattle.measures.specs.Worths.{carrying}
+use Rattle.measures.specs.Worths.{measured_payload}
 use Rattle.reports.specs.declared.commands.Command.{Command}
 use Rattle.reports.specs.declared.commands.Command.TheVariants as commands
 use Rattle.reports.specs.declared.faults.Reason.{Reason}
@@ -24,7 +25,7 @@ module _ {V : Type 0} (M : Payload V) (z : Size) where
   -- each call is accepted after those before it
   abbrev pub AllTaken : History V → List Call → Type 0
   AllTaken h [] = Unit {0}
-  AllTaken h (c ∷ cs) = (refusal M z h.state c.unit c.act ≡ None) × AllTaken (after M z h c) cs
+  AllTaken h (c ∷ cs) = (refusal M z h.state c.unit c.event ≡ None) × AllTaken (after M z h c) cs
 
   -- The calls before the first refusal are all accepted.
   pub reads_taken : (h : History V) (cs : List Call) → AllTaken h (reads h.state cs)
@@ -55,7 +56,7 @@ module _ (m : Meaning ℕ) (some all : ℕ → Bool) where
   pub reads_lines : (M : Payload ℕ) (z : Size) (h : History ℕ) (cs : List Call)
       → lines m some all cs (outcomes_from M z h.state cs) ≡ lines m some all (reads M z h.state cs) (outcomes_from M z h.state (reads M z h.state cs))
   reads_lines M z = by_calls M z (λ h cs. lines m some all cs (outcomes_from M z h.state cs) ≡ lines m some all (reads M z h.state cs) (outcomes_from M z h.state (reads M z h.state cs))) (λ h. refl)
-      (λ h c cs e ih. rw (e, e) (ap (λ (l : List MarkLine). line m some all c.unit (answer_to M z c.unit c.act (h.state.rows c.unit) ((acted M z h.state c.unit c.act).rows c.unit)) ++ l) ih))
+      (λ h c cs e ih. rw (e, e) (ap (λ (l : List MarkLine). line m some all c.unit (answer_to M z c.unit c.event (h.state.rows c.unit) ((acted M z h.state c.unit c.event).rows c.unit)) ++ l) ih))
       (λ h c cs x e same. rw e refl)
 
   -- a recording breaks off before any call; or its first command makes a board, and it comes to what the rest does on it
@@ -63,7 +64,7 @@ module _ (m : Meaning ℕ) (some all : ℕ → Bool) where
   TranscriptCases place bytes =
       ((reason : Reason) × (transcript m some all place bytes ≡ empty_transcript m some all reason place))
       ⊎ ((n k : ℕ) × (rest : List ℕ) × (first_command bytes ≡ Ok (commands.Make n k, rest)) × (make_refusal n k true ≡ None)
-      × (transcript m some all place bytes ≡ transcript_on m some all n k (new_state (carrying m n)) (place + making_size) rest))
+      × (transcript m some all place bytes ≡ transcript_on m some all n k (new_state (measured_payload m n)) (place + making_size) rest))
 
   -- Each recording does the one or the other.
   pub transcript_cases : (place : ℕ) (bytes : List ℕ) → TranscriptCases place bytes

@@ -10,17 +10,12 @@ use Rattle.measures.specs.Acceptance.{state_after, accepts, Recognizes}
 use Rattle.measures.specs.Automata.{state_sets}
 use Rattle.measures.specs.Formats.{states_in, labels_in, start_in, finals_in, table_in, relabelling_labels_in, entries_in, padded, PatternOf}
 use Rattle.measures.specs.Judges.{Judges}
-use Rattle.measures.specs.Laws.{accepted_events, AtMarks, Judged}
+use Rattle.measures.specs.Laws.{accepted_events, AtMarks, TellsOfFlows}
 use Rattle.measures.specs.Measures.{Meaning, Lawful, carried}
 use Rattle.measures.specs.RelabellingLaws.{relabelled_lawful}
 use Rattle.measures.specs.StateSetLaws.{state_sets_lawful}
 use Rattle.measures.specs.Words.{Word, Labels}
-use Rattle.measures.proofs.Accepting.{meets_or, within_or}
-use Rattle.measures.proofs.Judging.{some_decided, marks_judged}
-use Rattle.measures.proofs.Reaching.{holds_judges, accepted_decides}
-use Rattle.measures.proofs.Recognizing.{recognizes}
-use Rattle.measures.proofs.Translating.{translated_judges}
-use Rattle.measures.proofs.Valuing.{ranged}
+use Rattle.measures.proofs.Promises.{meets_or, within_or, some_decided, marks_judged, holds_judges, accepted_decides, recognizes, translated_judges, ranged}
 use Rattle.reports.specs.Laws.{in_pattern}
 use Rattle.reports.specs.Reports.{relabelling_at, front_fault, judge_in, some_in, all_in}
 use Rattle.reports.proofs.FrontFacts.{labels_counted, start_below, table_below, count_counted}
@@ -30,7 +25,7 @@ use Rattle.reports.proofs.FrontFacts.{labels_counted, start_below, table_below, 
 abbrev pub SetTells : List ℕ → Events → ℕ → ℕ → ℕ → Type 0
 SetTells b ev u i set =
     ((q : ℕ) → Member q set ↔ ((f : List Place) × Longest ev u i f × (state_after b (in_pattern b (word ev f)) ≡ q)))
-    × Judged (λ w. IsTrue (accepts b (in_pattern b w))) (some_in b set) (all_in b set) ev u i
+    × TellsOfFlows (λ w. IsTrue (accepts b (in_pattern b w))) (some_in b set) (all_in b set) ev u i
 
 module _ (b : List ℕ) (sound : front_fault b ≡ None) where
   -- the pattern's measure

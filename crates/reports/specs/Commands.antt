@@ -1,9 +1,9 @@
 -- The commands of a recording: each is its first byte, its operands of one byte each, and the rest.
 use Rattle.std.specs.Prelude.{ℕ, if◌then◌else◌, List, [], ◌∷◌, Ok, Err, Result, Some, None, Option, ◌==◌}
-use Rattle.history.specs.Events.{Event, send, receive, mark}
-use Rattle.history.specs.Runs as rules
+use Rattle.history.specs.declared.calls.Event.TheVariants.{Mark, Receive, Send}
+use Rattle.history.specs.declared.calls.Event.{Event}
+use Rattle.history.specs.declared.calls.Call as rules
 use Rattle.history.specs.Runs.{call}
-use Rattle.causality.specs.declared.calls.Event.TheVariants.{Send, Receive, Mark}
 use Rattle.reports.specs.declared.commands.Command.{Command}
 use Rattle.reports.specs.declared.commands.Command.TheVariants.{Make, Call, End}
 use Rattle.reports.specs.declared.faults.Reason.{Reason}
@@ -53,9 +53,9 @@ first_command (b ∷ rest) =
 -- what the first byte of a send, a receipt or a mark and its second operand say
 abbrev pub event_in : ℕ → ℕ → Option Event
 event_in b x =
-    if b == send_byte then Some (send x)
-    else if b == receive_byte then Some (receive x)
-    else if b == mark_byte then Some (mark x)
+    if b == send_byte then Some (Send x)
+    else if b == receive_byte then Some (Receive x)
+    else if b == mark_byte then Some (Mark x)
     else None
 
 -- a first call and those after it, if it is one; else no calls

@@ -5,19 +5,21 @@ use Rattle.bitset.specs.Sets.{Member}
 use Rattle.history.specs.declared.refusals.Refusal.{Refusal}
 use Rattle.history.specs.Board as board
 use Rattle.history.specs.Counting.{HowMany}
-use Rattle.history.specs.Events.{Events, mark, Sent, Received, Place}
+use Rattle.history.specs.Events.{Events, Sent, Received, Place}
+use Rattle.history.specs.declared.calls.Event.TheVariants.{Mark}
 use Rattle.history.specs.Flows.{Longest, word}
 use Rattle.history.specs.HappenedBefore.{Immediate}
 use Rattle.history.specs.Marks.{tick, marks}
-use Rattle.history.specs.Runs.{Size, Call, call, Possible, Run, by_unit, events_in, SameByUnit}
+use Rattle.history.specs.Runs.{Size, call, Possible, Run, by_unit, events_in, SameByUnit}
+use Rattle.history.specs.declared.Call.{Call}
 use Rattle.history.specs.Limits.{most_marks}
 use Rattle.causality.specs.Boards.{make_refusal}
 use Rattle.measures.specs.Acceptance.{state_after, accepts}
 use Rattle.measures.specs.Formats.{labels_in, entries_in, padded}
-use Rattle.measures.specs.Laws.{Judged}
+use Rattle.measures.specs.Laws.{TellsOfFlows}
 use Rattle.measures.specs.Relabellings.{translated}
 use Rattle.measures.specs.Words.{Word}
-use Rattle.measures.specs.Worths.{carrying, sized}
+use Rattle.measures.specs.Worths.{measured_payload, measured_size}
 use Rattle.reports.specs.declared.commands.Command.{Command}
 use Rattle.reports.specs.declared.commands.Command.TheVariants as commands
 use Rattle.reports.specs.declared.faults.Reason.{Reason}
@@ -31,7 +33,7 @@ use Rattle.reports.specs.Reports.{relabelling_at, recording_at, front_fault, jud
 
 -- the size of the board that a recording makes
 abbrev pub size_in : List ℕ → Size
-size_in b = sized (judge_in b) (transcript_in b).units (transcript_in b).messages most_marks
+size_in b = measured_size (judge_in b) (transcript_in b).units (transcript_in b).messages most_marks
 
 -- a word of the recording's labels in the pattern's
 abbrev pub in_pattern : List ℕ → Word → Word
@@ -40,7 +42,7 @@ in_pattern b w = translated (padded 64 (entries_in b (relabelling_at b))) (label
 -- how many of the calls are marks
 abbrev pub marks_among : List Call → ℕ
 marks_among [] = 0
-marks_among (c ∷ cs) = tick (Some c.act) + marks_among cs
+marks_among (c ∷ cs) = tick (Some c.event) + marks_among cs
 
 -- What a line tells of the mark that is event i of unit u: its unit; its own number among its unit's marks, from 1; the units of its immediate
 -- predecessors; exactly the states to which the words of the longest flows that end there lead the pattern in the bytes b, once relabelled; and
@@ -50,7 +52,7 @@ pub record Tells (b : List ℕ) (ev : Events) (u i : ℕ) (line : MarkLine) : Ty
   pub clock_is : line.clock ≡ marks ev u (suc i)
   pub predecessors_are : (v : ℕ) → Member v line.predecessors ↔ ((j : ℕ) × Immediate ev v j u i)
   pub states_are : (q : ℕ) → Member q line.states ↔ ((f : List Place) × Longest ev u i f × (state_after b (in_pattern b (word ev f)) ≡ q))
-  pub verdict : Judged (λ w. IsTrue (accepts b (in_pattern b w))) line.some line.all ev u i
+  pub verdict : TellsOfFlows (λ w. IsTrue (accepts b (in_pattern b w))) line.some line.all ev u i
 
 -- Two inputs have the same front: the same bytes before their recordings, which are the pattern and the relabelling.
 pub record SameFront (b d : List ℕ) : Type 0 where
@@ -78,10 +80,10 @@ AfterCalls b place =
 -- a call that the board refuses after the calls that were read
 abbrev pub RefusedCall : List ℕ → Transcript → ℕ → Refusal → Type 0
 RefusedCall b t place e =
-    let M = carrying (judge_in b) t.units in
-    let z = sized (judge_in b) t.units t.messages most_marks in
+    let M = measured_payload (judge_in b) t.units in
+    let z = measured_size (judge_in b) t.units t.messages most_marks in
     (c : Call) × (cs : List Call) × (calls_in (drop place b) ≡ c ∷ cs)
-    × (board.refusal M z (board.run M z t.calls).state c.unit c.act ≡ Some e)
+    × (board.refusal M z (board.run M z t.calls).state c.unit c.event ≡ Some e)
 
 -- bytes that are no whole command, where the recording begins or after its calls
 abbrev pub Malformed : List ℕ → ℕ → Reason → Type 0
@@ -106,7 +108,7 @@ Breaks b place (Refused e) = RefusedMaking b place e ⊎ (AfterCalls b place × 
 -- What is true of a report on an input whose pattern and relabelling are accepted.
 pub record ReportTrue (b : List ℕ) : Type 0 where
   -- the board has the size that the making asks for
-  pub sized : (n k : ℕ) (rest : List ℕ)
+  pub measured_size : (n k : ℕ) (rest : List ℕ)
       → first_command (drop (recording_at b) b) ≡ Ok (commands.Make n k, rest) → make_refusal n k true ≡ None
       → ((transcript_in b).units ≡ n) × ((transcript_in b).messages ≡ k)
   -- the calls read, up to the end or to where the recording breaks off, are what a real run could do
@@ -114,7 +116,7 @@ pub record ReportTrue (b : List ℕ) : Type 0 where
   -- and a call that the board refuses, there, is none that could come next
   pub refused : (e : Refusal) (place : ℕ) → (transcript_in b).end ≡ Err (fault_at (Refused e) place)
       → (c : Call) (cs : List Call) → calls_in (drop place b) ≡ c ∷ cs
-      → Possible (size_in b) (by_unit (transcript_in b).calls) c.unit c.act → ⊥
+      → Possible (size_in b) (by_unit (transcript_in b).calls) c.unit c.event → ⊥
   -- where it ends well, they are all calls after the command that makes the board
   pub all_read : (left : ℕ) → (transcript_in b).end ≡ Ok left
       → (transcript_in b).calls ≡ calls_in (drop making_size (drop (recording_at b) b))
@@ -124,9 +126,9 @@ pub record ReportTrue (b : List ℕ) : Type 0 where
   -- there is a line for each mark read, and no other, in the order of the recording
   pub lines_counted : length (transcript_in b).lines ≡ marks_among (transcript_in b).calls
   -- and it tells of the longest flows of the calls read up to that mark
-  pub each_line : (before after : List Call) (u l : ℕ) → (transcript_in b).calls ≡ before ++ call u (mark l) ∷ after
+  pub each_line : (before after : List Call) (u l : ℕ) → (transcript_in b).calls ≡ before ++ call u (Mark l) ∷ after
       → (line : MarkLine) × (slice_get (transcript_in b).lines (marks_among before) ≡ Some line)
-      × Tells b (events_in (before ++ call u (mark l) ∷ [])) u (length (by_unit before u)) line
+      × Tells b (events_in (before ++ call u (Mark l) ∷ [])) u (length (by_unit before u)) line
   -- at the end, the messages that were sent and not received are counted
   pub left_counted : (left : ℕ) → (transcript_in b).end ≡ Ok left
       → HowMany (λ p. Sent (events_in (transcript_in b).calls) p × (Received (events_in (transcript_in b).calls) p → ⊥)) left

@@ -1,12 +1,15 @@
 -- What a recording comes to, under a judge of sets of states.
 use Rattle.std.specs.Prelude.{ℕ, ◌+◌, ◌*◌, Bool, true, List, [], ◌∷◌, ◌++◌, length, drop, Ok, Err, Result, Some, None, Option}
 use Rattle.history.specs.declared.refusals.Refusal.{Refusal}
-use Rattle.history.specs.Board.{State, Answer, own_clock, marked, new_state, outcomes_from, state_from}
-use Rattle.history.specs.Runs.{Call}
+use Rattle.history.specs.Board.{State, new_state, outcomes_from, state_from}
+use Rattle.history.specs.declared.calls.Answer.{Answer}
+use Rattle.history.specs.declared.calls.Answer.TheVariants.{Sent, Received, Marked as marked}
+use Rattle.history.specs.declared.calls.Marked.{Marked}
+use Rattle.history.specs.declared.Call.{Call}
 use Rattle.history.specs.Limits.{most_marks}
-use Rattle.causality.specs.Boards.{make_refusal, travelling}
+use Rattle.causality.specs.Boards.{make_refusal, left_among}
 use Rattle.measures.specs.Measures.{Meaning}
-use Rattle.measures.specs.Worths.{carrying, sized}
+use Rattle.measures.specs.Worths.{measured_payload, measured_size}
 use Rattle.reports.specs.declared.commands.Command.{Command}
 use Rattle.reports.specs.declared.commands.Command.TheVariants as commands
 use Rattle.reports.specs.declared.faults.Reason.{Reason}
@@ -49,12 +52,17 @@ calls_before_refusal (c ∷ cs) [] = []
 calls_before_refusal (c ∷ cs) (Ok a ∷ xs) = c ∷ calls_before_refusal cs xs
 calls_before_refusal (c ∷ cs) (Err e ∷ xs) = []
 
+-- the line of an accepted mark of unit u, under a judge with these two answers
+abbrev pub mark_line : (some all : ℕ → Bool) → ℕ → Marked ℕ → MarkLine
+mark_line some all u m =
+    record { unit = u; clock = m.clock; predecessors = m.predecessors; states = m.value; some = some m.value; all = all m.value }
+
 module _ (m : Meaning ℕ) (some all : ℕ → Bool) where
   -- the line of an accepted call of unit u: only a mark has one
   abbrev pub line : ℕ → Answer ℕ → List MarkLine
-  line u (own_clock clock) = []
-  line u (marked clock predecessors v) =
-      record { unit = u; clock = clock; predecessors = predecessors; states = v; some = some v; all = all v } ∷ []
+  line u (Sent clock) = []
+  line u (Received clock) = []
+  line u (marked m) = mark_line some all u m ∷ []
 
   -- the lines of the calls before the first that is refused
   abbrev pub lines : List Call → List (Result (Answer ℕ) Refusal) → List MarkLine
@@ -67,8 +75,8 @@ module _ (m : Meaning ℕ) (some all : ℕ → Bool) where
   abbrev pub transcript_on : ℕ → ℕ → State ℕ → ℕ → List ℕ → Transcript
   transcript_on n k s place bytes =
       let cs = calls_in bytes in
-      let xs = outcomes_from (carrying m n) (sized m n k most_marks) s cs in
-      let left = travelling (state_from (carrying m n) (sized m n k most_marks) s cs).posts k in
+      let xs = outcomes_from (measured_payload m n) (measured_size m n k most_marks) s cs in
+      let left = left_among (state_from (measured_payload m n) (measured_size m n k most_marks) s cs).posts k in
       record {
         units = n;
         messages = k;
@@ -84,7 +92,7 @@ module _ (m : Meaning ℕ) (some all : ℕ → Bool) where
   -- a recording by its making, which is refused for its size, or makes the board to which the rest is handed
   abbrev pub transcript_of_board : ℕ → ℕ → ℕ → List ℕ → Option Refusal → Transcript
   transcript_of_board n k place bytes (Some e) = empty_transcript (Refused e) place
-  transcript_of_board n k place bytes None = transcript_on n k (new_state (carrying m n)) (place + making_size) bytes
+  transcript_of_board n k place bytes None = transcript_on n k (new_state (measured_payload m n)) (place + making_size) bytes
 
   -- a recording by its first command, which begins at a byte of the input
   abbrev pub transcript_from : ℕ → Result (Command × List ℕ) Reason → Transcript

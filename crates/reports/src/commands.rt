@@ -4,7 +4,7 @@ ghost use Rattle.reports.specs.Commands.{first_command as first_in};
 ghost use Rattle.reports.specs.declared.commands.Command.TheVariants.{Call as call_command};
 
 use super::faults::Reason;
-use causality::{Call, Event};
+use history::{Call, Event};
 
 // The first byte of each command. A slice pattern below names them.
 const MAKE: u8 = 0x10;

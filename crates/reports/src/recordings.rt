@@ -1,44 +1,35 @@
-// A recording, read command by command and handed to a board.
-ghost use Rattle.std.specs.Prelude.{◌≡◌, ℕ, ◌+◌, ◌*◌, ◌^◌, ◌<◌, ◌≤◌, true, length, Result};
-ghost use Rattle.history.specs.declared.refusals.Refusal.{Refusal as ghost_refusal};
-ghost use Rattle.history.specs.Board.{Answer};
-ghost use Rattle.measures.specs.Worths.{load};
-ghost use Rattle.causality.specs.Calls.{Obeys, lent, has_room};
-ghost use Rattle.causality.specs.Handing.{handed};
+//! A recording, read command by command and handed to a board.
+ghost use Rattle.std.specs.Prelude.{◌≡◌, ◌+◌, ◌*◌, ◌^◌, ◌<◌, ◌≤◌, true, length};
+ghost use Rattle.causality.specs.Boards.{has_room, memory, payload_of, setup_of};
 ghost use Rattle.reports.specs.Recordings.{transcript};
-ghost use Rattle.reports.specs.Steps.{result_with_place, result_with_reason, answer_line, EndedOn, Wrote, WroteOn};
+ghost use Rattle.reports.specs.Steps.{AnswersCall, EndedOn, Wrote, WroteOn, judged_line, result_with_place, result_with_reason};
 ghost use Rattle.reports.specs.declared.lines.TheConstants.{TEXT_PER_BYTE};
 
 use super::commands::{Command, MAKING_SIZE, first_command};
 use super::faults::{Reason, RecordingFault};
 use super::lines::{MarkLine, Page, push_mark};
-use causality::{Board, Call, Clock, Event, MAX_MESSAGES, MAX_UNITS};
+use causality::{Board, MAX_MESSAGES, MAX_UNITS};
 use grid::Grid;
-use history::{Post, Refusal};
-use measures::{Judge, JudgedMark, Measured, mark_judged};
+use history::{Answer, Call, Clock, Post, Refusal};
+use measures::{Judge, JudgedValue, Measured, hand_judged};
 
 // The most cells of a grid: a row for each unit and for each message, with a cell for each unit.
 const MOST_CELLS: usize = (MAX_UNITS + MAX_MESSAGES) * MAX_UNITS;
 
-// The line of a mark of a unit.
-fn line_of_mark(unit: usize, judged: JudgedMark<u64>) -> MarkLine
-    ensures { result ≡
-        record {
-          unit = unit;
-          clock = judged.mark.clock;
-          predecessors = judged.mark.predecessors;
-          states = judged.mark.value;
-          some = judged.verdict.some;
-          all = judged.verdict.all;
-        } }
+// The line of what a unit's call is answered, if it has one: a mark's.
+fn line_of_answer(unit: usize, answer: Answer<JudgedValue<u64>>) -> Option<MarkLine>
+    ensures { result ≡ judged_line unit answer }
 {
-    MarkLine {
-        unit,
-        clock: judged.mark.clock,
-        predecessors: judged.mark.predecessors,
-        states: judged.mark.value,
-        some: judged.verdict.some,
-        all: judged.verdict.all,
+    match answer {
+        Answer::Sent(_) | Answer::Received(_) => None,
+        Answer::Marked(mark) => Some(MarkLine {
+            unit,
+            clock: mark.clock,
+            predecessors: mark.predecessors,
+            states: mark.value.value,
+            some: mark.value.verdict.some,
+            all: mark.value.verdict.all,
+        }),
     }
 }
 
@@ -56,8 +47,8 @@ fn with_reason<T>(answer: Result<T, Refusal>) -> Result<T, Reason>
     Ok(answer?)
 }
 
-// Hands one call to a board. Answers the line of a mark; the board's own `hand` has no verdict for it.
-fn hand<J: Judge<Value = u64>>(
+// Hands one call to a board. Answers the line of a mark.
+fn hand_for_line<J: Judge<Value = u64>>(
     board: &Board<Measured<J>>,
     clocks: &mut Grid<'_, Clock>,
     flags: &mut Grid<'_, bool>,
@@ -65,22 +56,15 @@ fn hand<J: Judge<Value = u64>>(
     posts: &mut [Post],
     call: Call,
 ) -> Result<Option<MarkLine>, Reason>
-    ensures { (answer : Result (Answer ℕ) ghost_refusal) × Obeys (load (J.Measure.meaning board.now.payload.measure)) board.now.units board.now.messages (handed call) (lent clocks.old flags.old values.old posts.old) (lent clocks.new flags.new values.new posts.new) answer × (result ≡ answer_line (J.Judge.some_of board.now.payload.measure) (J.Judge.all_of board.now.payload.measure) call.unit answer) }
-{
-    match call.event {
-        Event::Send(message) => {
-            board.send(clocks, flags, values, posts, call.unit, message)?;
-            Ok(None)
-        }
-        Event::Receive(message) => {
-            board.receive(clocks, flags, values, posts, call.unit, message)?;
-            Ok(None)
-        }
-        Event::Mark(label) => {
-            let told = mark_judged(board, clocks, flags, values, posts, call.unit, label)?;
-            Ok(Some(line_of_mark(call.unit, told)))
-        }
+    ensures {
+        let judge = (payload_of board.now).measure in
+        AnswersCall (J.Judge.some_of judge) (J.Judge.all_of judge) (setup_of board.now) call
+            (memory clocks.old flags.old values.old posts.old)
+            (memory clocks.new flags.new values.new posts.new) result
     }
+{
+    let answer = hand_judged(board, clocks, flags, values, posts, call)?;
+    Ok(line_of_answer(call.unit, answer))
 }
 
 // How a recording ends whose end stands at a byte of the input: nothing may come after it. Answers how many messages are left on their way.
@@ -93,11 +77,11 @@ fn close<J: Judge<Value = u64>>(
     after: &[u8],
     place: usize,
 ) -> Result<usize, RecordingFault>
-    requires room { has_room board.now.units board.now.messages
-        (lent clocks.now flags.now values.now posts.now) ≡ true }
+    requires room { has_room (setup_of board.now).units (setup_of board.now).messages
+        (memory clocks.now flags.now values.now posts.now) ≡ true }
     requires place { place + 1 < 2 ^ 64 }
-    ensures { EndedOn J.Measure.meaning board.now.payload.measure board.now.units board.now.messages
-        (lent clocks.now flags.now values.now posts.now) place after.now result }
+    ensures { EndedOn J.Measure.meaning (payload_of board.now).measure (setup_of board.now).units (setup_of board.now).messages
+        (memory clocks.now flags.now values.now posts.now) place after.now result }
 {
     if !after.is_empty() {
         return Err(RecordingFault {
@@ -121,13 +105,13 @@ fn follow<J: Judge<Value = u64>>(
     bytes: &[u8],
     from: usize,
 ) -> Result<usize, RecordingFault>
-    requires room { has_room board.now.units board.now.messages
-        (lent clocks.old flags.old values.old posts.old) ≡ true }
+    requires room { has_room (setup_of board.now).units (setup_of board.now).messages
+        (memory clocks.old flags.old values.old posts.old) ≡ true }
     requires places { from + length bytes.now < 2 ^ 64 }
     requires space { length page.old.text + TEXT_PER_BYTE * length bytes.now ≤ page.old.room }
     ensures tells { WroteOn J.Measure.meaning J.Judge.some_of J.Judge.all_of
-        board.now.payload.measure board.now.units board.now.messages
-        (lent clocks.old flags.old values.old posts.old)
+        (payload_of board.now).measure (setup_of board.now).units (setup_of board.now).messages
+        (memory clocks.old flags.old values.old posts.old)
         from bytes.now page.old.text page.new.text result }
     ensures long { length page.new.text ≤ length page.old.text + TEXT_PER_BYTE * length bytes.now }
     ensures room { page.old.room ≤ page.new.room }
@@ -138,8 +122,8 @@ fn follow<J: Judge<Value = u64>>(
         let (command, after) = with_place(first_command(rest), place)?;
         match command {
             Command::Call(call) => {
-                let answer = hand(board, clocks, flags, values, posts, call);
-                if let Some(line) = with_place(answer, place)? {
+                let line = hand_for_line(board, clocks, flags, values, posts, call);
+                if let Some(line) = with_place(line, place)? {
                     push_mark(page, line);
                 }
             }
@@ -181,7 +165,7 @@ pub(crate) fn transcribe<J: Judge<Value = u64> + Drop>(
     let mut clocks = [0; MOST_CELLS];
     let mut flags = [false; MOST_CELLS];
     let mut values = [0; MOST_CELLS];
-    let mut posts = [Post::Unsent; MAX_MESSAGES];
+    let mut posts = [Post::UNSENT; MAX_MESSAGES];
     let mut clocks = Grid::new(&mut clocks, units);
     let mut flags = Grid::new(&mut flags, units);
     let mut values = Grid::new(&mut values, units);

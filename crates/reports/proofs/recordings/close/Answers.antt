@@ -1,19 +1,18 @@
 use Rattle.std.specs.Prelude.{slice_index_or}
 use Rattle.std.proofs.Common.{◌≡◌, ℕ, Bool, true, Ok, rules, ap, ◌∙◌}
-use Rattle.history.specs.declared.messages.Post.TheVariants.{Unsent}
+use Rattle.history.specs.Messages.{unsent}
 use Rattle.history.specs.Board.{State}
-use Rattle.causality.specs.Boards.{Memory, Shows, travelling, left_answer}
-use Rattle.causality.proofs.Leaving.{travelling_same}
-use Rattle.causality.specs.Calls.{lent}
+use Rattle.causality.specs.Boards.{Memory, Shows, left_among, left_answer, memory}
+use Rattle.causality.proofs.Promises.{count_below_same}
 use Rattle.reports.proofs.recordings.close.Goals as goal
 
 -- A board whose memory shows a state answers how many messages are on their way in it.
-left_answer-shown : {V : Type 0} (start : V) (n k : ℕ) (memory : Memory V) (room : Bool) → room ≡ true → (s : State V) → Shows start n k memory s → left_answer k room memory.posts ≡ Ok (travelling s.posts k)
+left_answer-shown : {V : Type 0} (start : V) (n k : ℕ) (memory : Memory V) (room : Bool) → room ≡ true → (s : State V) → Shows start n k memory s → left_answer k room memory.posts ≡ Ok (left_among s.posts k)
 left_answer-shown start n k memory room there s shows =
-    ap (λ (r : Bool). left_answer k r memory.posts) there ∙ ap (λ (t : ℕ). Ok t) (travelling_same (λ p. slice_index_or memory.posts p Unsent) s.posts k shows.posts)
+    ap (λ (r : Bool). left_answer k r memory.posts) there ∙ ap (λ (t : ℕ). Ok t) (travelling_same (λ p. slice_index_or memory.posts p unsent) s.posts k shows.posts)
 
 pub returns : goal.returns
 returns g c s shows =
     let a = c.args in
-    let left = left_answer-shown (g.J.Measure.meaning a.board.now.payload.measure).start a.board.now.units a.board.now.messages (lent a.clocks.now a.flags.now a.values.now a.posts.now) _ c.requires.room s shows in
+    let left = left_answer-shown (g.J.Measure.meaning a.board.now.payload.measure).start a.board.now.units a.board.now.messages (memory a.clocks.now a.flags.now a.values.now a.posts.now) _ c.requires.room s shows in
     search (left, rules)

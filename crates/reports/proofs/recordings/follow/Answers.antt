@@ -2,8 +2,8 @@
 -- line, and every other way out of the loop is one of `missing`, `second`, `refuses` and `closes`. Sizes: a call takes three bytes of the rest, and
 -- a line no more text than these have room for.
 use Rattle.std.proofs.Common.{rules, ◌≡◌, ℕ, ◌+◌, ◌-◌, ◌++◌, List, length, Option, Err, Ok, Some, None, sym, refl, arith, ◌∙◌, ap, append-nil}
-use Rattle.causality.specs.Calls.{lent}
-use Rattle.measures.proofs.Playing.{room_kept}
+use Rattle.causality.specs.Boards.{memory}
+use Rattle.measures.proofs.Promises.{room_kept}
 use Rattle.reports.specs.Commands.{call_size}
 use Rattle.reports.specs.declared.faults.RecordingFault.{RecordingFault}
 use Rattle.reports.specs.declared.lines.MarkLine.{MarkLine}
@@ -28,7 +28,7 @@ returns-in_err-line-in-Call-clause-tells g c s shows =
     let place = c.args.from + (length c.args.bytes.now - length l.rest.now) in
     let first = first_command-ok l.rest.now place c.first_command.result c.first_command.ensures c.with_place.ensures c.in_ok-command.was c.in-Call.is in
     let h = c.hand-answer in
-    let new = lent h.new.clocks h.new.flags h.new.values h.new.posts in
+    let new = memory h.new.clocks h.new.flags h.new.values h.new.posts in
     let (x, obeys, said) = h.ensures in
     let (refused, at) = result_with_place-err place h.result c.with_place-in-Call.ensures c.in_err-line-in-Call.was in
     let carried : c.from_residual-in_err-line-in-Call.result ≡ Err c.in_err-line-in-Call.field-0.0 = search rules in
@@ -55,7 +55,7 @@ loop-command-preserved-in-Some g c =
     let place = a.from + (length a.bytes.now - length l.rest.now) in
     let h = c.hand-answer in
     let first = first_command-ok l.rest.now place c.first_command.result c.first_command.ensures c.with_place.ensures c.in_ok-command.was c.in-Call.is in
-    let new = lent h.new.clocks h.new.flags h.new.values h.new.posts in
+    let new = memory h.new.clocks h.new.flags h.new.values h.new.posts in
     let (x, obeys, said) = h.ensures in
     let accepted = result_with_place-ok place h.result c.with_place-in-Call.ensures c.in_ok-line-in-Call.was in
     let size = length-call l.rest.now _ _ first in
@@ -63,7 +63,7 @@ loop-command-preserved-in-Some g c =
     let next : a.from + (length a.bytes.now - length c.in_ok-command.after.now) ≡ place + call_size = omega (arith, size, i.places) in
     let w = c.push_mark.ensures in
     record {
-      room = room_kept (g.J.Measure.meaning a.board.now.payload.measure).start a.board.now.units a.board.now.messages (lent l.clocks l.flags l.values l.posts) (lent h.new.clocks h.new.flags h.new.values h.new.posts) obeys.loans obeys.follows.beyond i.room;
+      room = room_kept (g.J.Measure.meaning a.board.now.payload.measure).start a.board.now.units a.board.now.messages (memory l.clocks l.flags l.values l.posts) (memory h.new.clocks h.new.flags h.new.values h.new.posts) obeys.loans obeys.follows.beyond i.room;
       reached = λ s shows.
           rw next (accepts (i.reached s shows) first i.room {new = new} obeys said
           (Some c.in-Some.line) (accepted ∙ ap (λ (o : Option MarkLine). Ok o) c.in-Some.is) c.push_mark.new.page.text
@@ -80,14 +80,14 @@ loop-command-preserved g c =
     let place = a.from + (length a.bytes.now - length l.rest.now) in
     let h = c.hand-answer in
     let first = first_command-ok l.rest.now place c.first_command.result c.first_command.ensures c.with_place.ensures c.in_ok-command.was c.in-Call.is in
-    let new = lent h.new.clocks h.new.flags h.new.values h.new.posts in
+    let new = memory h.new.clocks h.new.flags h.new.values h.new.posts in
     let (x, obeys, said) = h.ensures in
     let accepted = result_with_place-ok place h.result c.with_place-in-Call.ensures c.in_ok-line-in-Call.was in
     let size = length-call l.rest.now _ _ first in
     let i = l.invariant in
     let next : a.from + (length a.bytes.now - length c.in_ok-command.after.now) ≡ place + call_size = omega (arith, size, i.places) in
     record {
-      room = room_kept (g.J.Measure.meaning a.board.now.payload.measure).start a.board.now.units a.board.now.messages (lent l.clocks l.flags l.values l.posts) (lent h.new.clocks h.new.flags h.new.values h.new.posts) obeys.loans obeys.follows.beyond i.room;
+      room = room_kept (g.J.Measure.meaning a.board.now.payload.measure).start a.board.now.units a.board.now.messages (memory l.clocks l.flags l.values l.posts) (memory h.new.clocks h.new.flags h.new.values h.new.posts) obeys.loans obeys.follows.beyond i.room;
       reached = λ s shows.
           rw next (accepts (i.reached s shows) first i.room {new = new} obeys said
           None (accepted ∙ ap (λ (o : Option MarkLine). Ok o) c.in_default.is) l.page.text (sym (append-nil l.page.text)));

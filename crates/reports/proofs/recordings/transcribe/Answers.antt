@@ -1,12 +1,11 @@
 use Rattle.std.proofs.Common.{rules, ◌≡◌, ◌+◌, ℕ, Some, Err, replicate, sym, arith, ◌∙◌, ap, ap₂}
 use Rattle.std.proofs.lemmas.List.{length-replicate}
-use Rattle.history.specs.declared.messages.Post.TheVariants.{Unsent}
+use Rattle.history.specs.Messages.{unsent}
 use Rattle.history.specs.declared.refusals.Refusal.{Refusal}
 use Rattle.history.specs.Limits.{most_messages}
 use Rattle.history.specs.Board.{new_state}
-use Rattle.causality.specs.Boards.{make_refusal}
-use Rattle.causality.specs.Calls.{lent, has_room}
-use Rattle.measures.specs.Worths.{carrying}
+use Rattle.causality.specs.Boards.{make_refusal, has_room, memory}
+use Rattle.measures.specs.Worths.{measured_payload}
 use Rattle.reports.specs.Commands.{making_size}
 use Rattle.reports.specs.declared.commands.Command.TheVariants.{Make}
 use Rattle.reports.specs.declared.faults.RecordingFault.{RecordingFault}
@@ -23,9 +22,9 @@ returns-in_err-board-clause-tells g c =
     let k = c.from-messages.result in
     let size : Make c.in-Make.units c.in-Make.messages ≡ Make n k = ap₂ (λ (u v : ℕ). Make u v) (sym c.from-units.ensures) (sym c.from-messages.ensures) in
     let first = first_command-ok a.bytes.now a.place c.first_command.result c.first_command.ensures c.with_place.ensures c.in_ok-command.was (c.in-Make.is ∙ size) in
-    let room = has_room n k (lent c.new-clocks.result c.new-flags.result c.new-values.result (replicate most_messages Unsent)) in
-    let by_size = made_by_size n k (omega arith) c.new-clocks.result c.new-flags.result c.new-values.result (replicate most_messages Unsent)
-    c.new-clocks.ensures.width c.new-flags.ensures.width c.new-values.ensures.width (search rules) (search rules) (search rules) (length-replicate most_messages Unsent) in
+    let room = has_room n k (memory c.new-clocks.result c.new-flags.result c.new-values.result (replicate most_messages unsent)) in
+    let by_size = made_by_size n k (omega arith) c.new-clocks.result c.new-flags.result c.new-values.result (replicate most_messages unsent)
+    c.new-clocks.ensures.width c.new-flags.ensures.width c.new-values.ensures.width (search rules) (search rules) (search rules) (length-replicate most_messages unsent) in
     let (none, at) = result_with_place-err a.place c.with_reason.result c.with_place-2.ensures c.in_err-board.was in
     let (e, refused, why) = result_with_reason-err c.make-made.result c.with_reason.ensures none in
     let allowed = match_result-err _ (λ (d : Refusal). make_refusal n k room ≡ Some d) c.make-made.result c.make-made.ensures.board e refused in
@@ -44,14 +43,14 @@ returns-clause-tells g c =
     let board = c.in_ok-board.board in
     let size : Make c.in-Make.units c.in-Make.messages ≡ Make n k = ap₂ (λ (u v : ℕ). Make u v) (sym c.from-units.ensures) (sym c.from-messages.ensures) in
     let first = first_command-ok a.bytes.now a.place c.first_command.result c.first_command.ensures c.with_place.ensures c.in_ok-command.was (c.in-Make.is ∙ size) in
-    let by_size = made_by_size n k (omega arith) c.new-clocks.result c.new-flags.result c.new-values.result (replicate most_messages Unsent)
-    c.new-clocks.ensures.width c.new-flags.ensures.width c.new-values.ensures.width (search rules) (search rules) (search rules) (length-replicate most_messages Unsent) in
+    let by_size = made_by_size n k (omega arith) c.new-clocks.result c.new-flags.result c.new-values.result (replicate most_messages unsent)
+    c.new-clocks.ensures.width c.new-flags.ensures.width c.new-values.ensures.width (search rules) (search rules) (search rules) (length-replicate most_messages unsent) in
     let made = result_with_reason-ok c.make-made.result c.with_reason.ensures (result_with_place-ok a.place c.with_reason.result c.with_place-2.ensures c.in_ok-board.was) in
     let (allowed, units, messages, payload) = match_result-ok _ _ c.make-made.result c.make-made.ensures.board board made in
     board_made (g.J.Measure.meaning a.judge) (g.J.Judge.some_of a.judge) (g.J.Judge.all_of a.judge) a.place a.bytes.now rest n k first (sym by_size ∙ allowed) old new c.follow.result
     (made_with g.J.Measure.meaning g.J.Judge.some_of g.J.Judge.all_of a.judge board.payload.measure (ap (λ p. p.measure) payload) n board.units units k board.messages messages
-    (lent c.make-made.new.clocks c.make-made.new.flags c.make-made.new.values c.make-made.new.posts) old new (a.place + making_size) rest c.follow.result c.follow.ensures.tells
-    (new_state (carrying (g.J.Measure.meaning a.judge) n)) (c.make-made.ensures.begins.makes.state allowed))
+    (memory c.make-made.new.clocks c.make-made.new.flags c.make-made.new.values c.make-made.new.posts) old new (a.place + making_size) rest c.follow.result c.follow.ensures.tells
+    (new_state (measured_payload (g.J.Measure.meaning a.judge) n)) (c.make-made.ensures.begins.makes.state allowed))
 
 pub returns-clause-long : goal.returns-clause-long
 returns-clause-long g c =
