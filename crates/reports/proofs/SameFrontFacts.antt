@@ -1,5 +1,5 @@
--- Inputs that agree on the bytes before the recording of one have the same pattern and relabelling, the same judge, and the same faults before
--- their recordings. A part of an input that reaches past these bytes is a case.
+-- Inputs that agree on the bytes before the recording of the one have the same pattern and relabelling, and the same judge; and if nothing is wrong
+-- with the front of the one, nothing is with the other's. A part of an input that reaches past these bytes is a case.
 -- Each number that the formats read stands at a byte below the recording, or in a run of them, so it is the same in both. What a reader asks
 -- are questions about these numbers and about the length, so they have the same answers.
 use Rattle.std.proofs.Common.{◌≡◌, ℕ, ◌+◌, ◌*◌, ◌^◌, ◌<◌, ◌≤◌, Bool, true, ◌&&◌, List, length, drop, take, None, Option, nat_le, sym, ap, subst, ◌∙◌, arith, ◌==◌, nat_lt, slice_index}
