@@ -10,13 +10,14 @@ use Rattle.std.proofs.lemmas.Option.{same_Some, slice_get-map}
 use Rattle.bitset.proofs.Members.{same_members}
 use Rattle.history.specs.Board.{Reply, mark_answer, outcomes, run, accepted}
 use Rattle.history.specs.declared.calls.Answer.{Answer}
+use Rattle.history.specs.declared.calls.Answer.TheVariants.{Sent, Received}
 use Rattle.history.specs.Counting.{Exactly}
 use Rattle.history.specs.Events.{Events, Logs, at}
 use Rattle.history.specs.declared.calls.Event.TheVariants.{Mark, Receive, Send}
 use Rattle.history.specs.declared.calls.Event.{Event}
 use Rattle.history.specs.Flows.{Longest}
 use Rattle.history.specs.HappenedBefore.{Immediate}
-use Rattle.history.specs.Laws.{answers_of, message_told}
+use Rattle.history.specs.Laws.{MessageAnswered, answers_of}
 use Rattle.history.specs.Marks.{marks}
 use Rattle.history.specs.Rows.{Payload}
 use Rattle.history.specs.Runs.{Size, SameByUnit, by_unit}
@@ -99,19 +100,24 @@ module _ {V : Type 0} (m : Meaning V) (valued : MarksValued m) (limit n k n' k' 
         ∙ sym (on_second.value_any on_first.flow on_first.flows (subst (λ (x : Events). Exactly (Longest x u i) (on_first.flow ∷ on_first.flows)) events on_first.all))))
         ∙ sym (answer_there ((run M' z' ds).told u) (mark_answer second.clock second.predecessors second.value) second.stamp second.told)
 
-    -- So is a send or a receipt.
-    messages_same : (p : ℕ) → (ev u i ≡ Some (Send p)) ⊎ (ev u i ≡ Some (Receive p)) → slice_get (answers u) i ≡ slice_get (answers' u) i
-    messages_same p is_message =
-        let (stamp, said) = messages_answered V M z cs u i p is_message in
-        let (stamp', said') = messages_answered V M' z' ds u i p (subst (λ (x : Events). (x u i ≡ Some (Send p)) ⊎ (x u i ≡ Some (Receive p))) events is_message) in
-        answer_there ((run M z cs).told u) (message_told ev u i) stamp said
-        ∙ ap (λ (x : Events). Some (message_told x u i)) events
-        ∙ sym (answer_there ((run M' z' ds).told u) (message_told ev' u i) stamp' said')
+    -- the answer of a reply
+    reply_there : (replies : List (Reply V)) (r : Reply V) → slice_get replies i ≡ Some r → slice_get (map (λ (x : Reply V). x.answer) replies) i ≡ Some r.answer
+    reply_there replies r stands = slice_get-map (λ (x : Reply V). x.answer) replies i ∙ ap (option_map (λ (x : Reply V). x.answer)) stands
+
+    -- So is a send or a receipt, whose answer is a number of marks.
+    message_same : (e : Event) (by_marks : ℕ → Answer V) → ev u i ≡ Some e
+        → ((x : Events) (a : Answer V) → MessageAnswered x u i e a → a ≡ by_marks (marks x u i)) → slice_get (answers u) i ≡ slice_get (answers' u) i
+    message_same e by_marks is says =
+        let (r, told, said) = messages_answered V M z cs u i e is in
+        let (r', told', said') = messages_answered V M' z' ds u i e (subst (λ (x : Events). x u i ≡ Some e) events is) in
+        reply_there ((run M z cs).told u) r told
+        ∙ ap Some (says ev r.answer said ∙ ap (λ (x : Events). by_marks (marks x u i)) events ∙ sym (says ev' r'.answer said'))
+        ∙ sym (reply_there ((run M' z' ds).told u) r' told')
 
     -- Each call is answered the same on both boards.
     answer_same : (e : Event) → ev u i ≡ Some e → slice_get (answers u) i ≡ slice_get (answers' u) i
-    answer_same (Send p) is = messages_same p (inl is)
-    answer_same (Receive p) is = messages_same p (inr is)
+    answer_same (Send p) is = message_same (Send p) Sent is (λ x a said. said)
+    answer_same (Receive p) is = message_same (Receive p) Received is (λ x a said. said)
     answer_same (Mark l) is = marks_same l is
 
   -- Each unit got the same answers.

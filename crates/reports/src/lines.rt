@@ -6,7 +6,7 @@ ghost use Rattle.reports.specs.declared.lines.TheConstants.{MOST_LINE};
 
 use super::buffers::{put_bit, put_byte, put_decimal, put_hex, put_text};
 use super::faults::Fault;
-use causality::Clock;
+use history::Clock;
 use std::alloc::{AllocError, Global};
 use std::marker::Model;
 

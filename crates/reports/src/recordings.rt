@@ -77,11 +77,16 @@ fn close<J: Judge<Value = u64>>(
     after: &[u8],
     place: usize,
 ) -> Result<usize, RecordingFault>
-    requires room { has_room (setup_of board.now).units (setup_of board.now).messages
-        (memory clocks.now flags.now values.now posts.now) ≡ true }
+    requires room {
+        let b = setup_of board.now in
+        has_room b.units b.messages (memory clocks.now flags.now values.now posts.now) ≡ true
+    }
     requires place { place + 1 < 2 ^ 64 }
-    ensures { EndedOn J.Measure.meaning (payload_of board.now).measure (setup_of board.now).units (setup_of board.now).messages
-        (memory clocks.now flags.now values.now posts.now) place after.now result }
+    ensures {
+        let b = setup_of board.now in
+        EndedOn J.Measure.meaning (payload_of board.now).measure b.units b.messages
+            (memory clocks.now flags.now values.now posts.now) place after.now result
+    }
 {
     if !after.is_empty() {
         return Err(RecordingFault {
@@ -105,14 +110,17 @@ fn follow<J: Judge<Value = u64>>(
     bytes: &[u8],
     from: usize,
 ) -> Result<usize, RecordingFault>
-    requires room { has_room (setup_of board.now).units (setup_of board.now).messages
-        (memory clocks.old flags.old values.old posts.old) ≡ true }
+    requires room {
+        let b = setup_of board.now in
+        has_room b.units b.messages (memory clocks.old flags.old values.old posts.old) ≡ true
+    }
     requires places { from + length bytes.now < 2 ^ 64 }
     requires space { length page.old.text + TEXT_PER_BYTE * length bytes.now ≤ page.old.room }
-    ensures tells { WroteOn J.Measure.meaning J.Judge.some_of J.Judge.all_of
-        (payload_of board.now).measure (setup_of board.now).units (setup_of board.now).messages
-        (memory clocks.old flags.old values.old posts.old)
-        from bytes.now page.old.text page.new.text result }
+    ensures tells {
+        let b = setup_of board.now in
+        WroteOn J.Measure.meaning J.Judge.some_of J.Judge.all_of (payload_of board.now).measure b.units b.messages
+            (memory clocks.old flags.old values.old posts.old) from bytes.now page.old.text page.new.text result
+    }
     ensures long { length page.new.text ≤ length page.old.text + TEXT_PER_BYTE * length bytes.now }
     ensures room { page.old.room ≤ page.new.room }
 {
