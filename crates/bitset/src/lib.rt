@@ -72,10 +72,11 @@ pub fn take_positions(flags: &mut [bool]) -> u64
     ensures positions { result ≡ positions_in flags.old }
     ensures flags { flags.new ≡ replicate (length flags.old) false }
 {
-    if flags.len() > 64 {
+    let mut few = flags.len();
+    if few > 64 {
         flags[64..].fill(false);
+        few = 64;
     }
-    let few = flags.len().min(64);
     sweep(&mut flags[..few])
 }
 

@@ -6,7 +6,7 @@ use borrow.Rule.Slice.PartMut.{put_mid}
 use Rattle.bitset.specs.Sets.{those, positions_in}
 use Rattle.bitset.proofs.PositionFacts.{those_same}
 use Rattle.bitset.proofs.take_positions.Goals as goal
-use Rattle.bitset.proofs.take_positions.Goals.{then-flags-gt64, else-flags-gt64}
+use Rattle.bitset.proofs.take_positions.Goals.{then-few-gt64, else-few-gt64}
 
 -- The flags from 64 on are in no set.
 front_positions : (xs : List Bool) (few : ℕ) → few ≡ min (length xs) 64 → positions_in (take few xs) ≡ positions_in xs
@@ -42,18 +42,18 @@ few_cleared xs mid few new same e h = rw (h, same, e) (same_lists _ _ (search (r
 pub returns-clause-positions : goal.returns-clause-positions
 returns-clause-positions c =
     c.sweep.ensures.positions
-    ∙ elim c.if-flags-gt64.branch [
-      | then-flags-gt64 w ↦
-          ap positions_in (same_front c.args.flags.now c.if-flags-gt64.flags w.fill.new.self c.if-flags-gt64.auto.flags w.if-flags-gt64.true w.flags-is (w.fill.ensures.after (λ y e. e)) c.min-few.result (omega arith))
-          ∙ front_positions c.args.flags.now c.min-few.result (omega arith)
-      | else-flags-gt64 w ↦
-          ap (λ (xs : List Bool). positions_in (take c.min-few.result xs)) w.flags-is ∙ front_positions c.args.flags.now c.min-few.result (omega arith)
+    ∙ elim c.if-few-gt64.branch [
+      | then-few-gt64 w ↦
+          ap positions_in (same_front c.args.flags.now c.if-few-gt64.flags w.fill.new.self c.if-few-gt64.auto.flags w.if-few-gt64.true w.flags-is (w.fill.ensures.after (λ y e. e)) c.if-few-gt64.few (omega arith))
+          ∙ front_positions c.args.flags.now c.if-few-gt64.few (omega arith)
+      | else-few-gt64 w ↦
+          ap (λ (xs : List Bool). positions_in (take c.if-few-gt64.few xs)) w.flags-is ∙ front_positions c.args.flags.now c.if-few-gt64.few (omega arith)
     ]
 
 pub returns-clause-flags : goal.returns-clause-flags
 returns-clause-flags c =
-    elim c.if-flags-gt64.branch [
-      | then-flags-gt64 w ↦
-          all_cleared c.args.flags.now c.if-flags-gt64.flags w.fill.new.self c.if-flags-gt64.auto.flags w.if-flags-gt64.true w.flags-is (w.fill.ensures.after (λ y e. e)) c.min-few.result _ (omega arith) c.sweep.ensures.flags
-      | else-flags-gt64 w ↦ few_cleared c.args.flags.now c.if-flags-gt64.flags c.min-few.result _ w.flags-is (omega arith) c.sweep.ensures.flags
+    elim c.if-few-gt64.branch [
+      | then-few-gt64 w ↦
+          all_cleared c.args.flags.now c.if-few-gt64.flags w.fill.new.self c.if-few-gt64.auto.flags w.if-few-gt64.true w.flags-is (w.fill.ensures.after (λ y e. e)) c.if-few-gt64.few _ (omega arith) c.sweep.ensures.flags
+      | else-few-gt64 w ↦ few_cleared c.args.flags.now c.if-few-gt64.flags c.if-few-gt64.few _ w.flags-is (omega arith) c.sweep.ensures.flags
     ]
