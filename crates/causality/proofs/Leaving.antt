@@ -4,7 +4,7 @@ use Rattle.std.specs.Prelude.{count_by}
 use Rattle.std.proofs.lemmas.List.Sums.{count_by_more_no, count_by_more_yes}
 use Rattle.history.specs.declared.messages.Post.{Post}
 use Rattle.history.specs.Messages.{unsent, travels}
-use Rattle.causality.specs.Boards.{EachShows}
+use Rattle.causality.specs.Boards.{EachShows, left_among}
 use Rattle.history.specs.Counting.{count_below}
 
 -- only what the test says of the numbers below n counts
@@ -14,19 +14,19 @@ count_below_same f g (suc n) e =
     ap₂ (λ (t : ℕ) (b : Bool). t + (if b then 1 else 0)) (count_below_same f g n (λ m h. e m (omega arith))) (e n (omega arith))
 
 -- the count over the first k
-travelling_take : (posts : List Post) (k : ℕ) → k ≤ length posts → count_by travels (take k posts) ≡ count_below (λ m. travels (get_or posts m unsent)) k
+travelling_take : (posts : List Post) (k : ℕ) → k ≤ length posts → count_by travels (take k posts) ≡ left_among (λ m. get_or posts m unsent) k
 travelling_take posts zero h = refl
 travelling_take posts (suc k) h = one (travels (get_or posts k unsent)) refl (travelling_take posts k (omega arith))
   where
-    one : (b : Bool) → travels (get_or posts k unsent) ≡ b → count_by travels (take k posts) ≡ count_below (λ m. travels (get_or posts m unsent)) k
-        → count_by travels (take (suc k) posts) ≡ count_below (λ m. travels (get_or posts m unsent)) k + (if b then 1 else 0)
+    one : (b : Bool) → travels (get_or posts k unsent) ≡ b → count_by travels (take k posts) ≡ left_among (λ m. get_or posts m unsent) k
+        → count_by travels (take (suc k) posts) ≡ left_among (λ m. get_or posts m unsent) k + (if b then 1 else 0)
     one true e before =
         ap (λ (i : ℕ). count_by travels (take i posts)) (sym (add-one k))
         ∙ count_by_more_yes travels posts k unsent (omega arith) e
         ∙ ap (λ (t : ℕ). t + 1) before
     one false e before = ap (λ (i : ℕ). count_by travels (take i posts)) (sym (add-one k)) ∙ count_by_more_no travels posts k unsent (omega arith) e ∙ before ∙ sym (add-zero _)
 
-pub travelling_front : (posts : List Post) (k count : ℕ) → k ≤ length posts → count ≡ count_by travels (take k posts) → count ≡ count_below (λ m. travels (get_or posts m unsent)) k
+pub travelling_front : (posts : List Post) (k count : ℕ) → k ≤ length posts → count ≡ count_by travels (take k posts) → count ≡ left_among (λ m. get_or posts m unsent) k
 travelling_front posts k count h e = e ∙ travelling_take posts k h
 
 pub each_shows : {V : Type 0} (start : V) (n k : ℕ) → EachShows start n k

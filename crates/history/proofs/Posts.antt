@@ -4,7 +4,7 @@ use Rattle.std.specs.Result.{result_err, result_unwrap_or}
 use Rattle.history.specs.declared.messages.Post.{Post}
 use Rattle.history.specs.declared.messages.Post.TheVariants.{Unsent, OnItsWay, Delivered}
 use Rattle.history.specs.declared.messages.Handling.TheVariants.{Sending, Receiving}
-use Rattle.history.specs.Events.{Events, Logs, at, Sent, Received}
+use Rattle.history.specs.Events.{Events, Logs, at, IsSent, IsReceived}
 use Rattle.history.specs.declared.calls.Event.TheVariants.{Receive, Send}
 use Rattle.history.specs.declared.calls.Event.{Event}
 use Rattle.history.specs.Messages.{moved, travels, Stated}
@@ -12,14 +12,14 @@ use Rattle.history.specs.Runs.{grown}
 use Rattle.history.proofs.Logs.{grown_here, grown_keeps, grown_cases}
 
 -- what the state allows is what the events allow
-pub may_send : (ev : Events) (m : ℕ) (p : Post) → Stated ev m p → (result_err (moved p Sending) ≡ None) ↔ (Sent ev m → ⊥)
+pub may_send : (ev : Events) (m : ℕ) (p : Post) → Stated ev m p → (result_err (moved p Sending) ≡ None) ↔ (IsSent ev m → ⊥)
 may_send ev m p s = grind arith
 
-pub may_receive : (ev : Events) (m : ℕ) (p : Post) → Stated ev m p → (result_err (moved p Receiving) ≡ None) ↔ (Sent ev m × (Received ev m → ⊥))
+pub may_receive : (ev : Events) (m : ℕ) (p : Post) → Stated ev m p → (result_err (moved p Receiving) ≡ None) ↔ (IsSent ev m × (IsReceived ev m → ⊥))
 may_receive ev m p s = grind arith
 
 -- a message is on its way exactly when it was sent and not received
-pub travels_stated : (ev : Events) (m : ℕ) (p : Post) → Stated ev m p → (travels p ≡ true) ↔ (Sent ev m × (Received ev m → ⊥))
+pub travels_stated : (ev : Events) (m : ℕ) (p : Post) → Stated ev m p → (travels p ≡ true) ↔ (IsSent ev m × (IsReceived ev m → ⊥))
 travels_stated ev m p s = grind arith
 
 -- the events say one state of a message
@@ -27,7 +27,7 @@ pub stated_one : (ev : Events) (m : ℕ) (p q : Post) → Stated ev m p → Stat
 stated_one ev m p q s t = grind arith
 
 -- a stated message was sent or not
-pub sent_or_not : (ev : Events) (m : ℕ) (p : Post) → Stated ev m p → Sent ev m ⊎ (Sent ev m → ⊥)
+pub sent_or_not : (ev : Events) (m : ℕ) (p : Post) → Stated ev m p → IsSent ev m ⊎ (IsSent ev m → ⊥)
 sent_or_not ev m p s = grind arith
 
 module _ (logs : Logs) (u : ℕ) (x : Event) where

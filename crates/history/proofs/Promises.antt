@@ -3,7 +3,7 @@
 use Rattle.std.proofs.Common.{◌≡◌, ℕ, suc, ◌<◌, ◌⊎◌, ◌↔◌, true, List, [], ◌∷◌, ◌++◌, map, length, Some, None, sym, ap, subst}
 use Rattle.history.specs.Board.{History, refusal, after, run, accepted}
 use Rattle.history.specs.Counting.{Exactly, HowMany}
-use Rattle.history.specs.Events.{Events, at, Sent, Received}
+use Rattle.history.specs.Events.{Events, at, IsSent, IsReceived}
 use Rattle.history.specs.Laws.{happened, Answered, AcceptsRuns, MessagesAnswered, OutcomesTold, OrderFree, StampsDecide}
 use Rattle.history.specs.Marks.{IsMark}
 use Rattle.history.specs.Messages.{travels, Stated}
@@ -114,7 +114,7 @@ pub put_cases : {A : Type 0} (f : ℕ → A) (u : ℕ) (x : A) (j : ℕ) → ((j
 put_cases f u x j = Logs.put_cases f u x j
 
 -- A message is on its way exactly when it was sent and not received.
-pub travels_stated : (ev : Events) (m : ℕ) (p : Post) → Stated ev m p → (travels p ≡ true) ↔ (Sent ev m × (Received ev m → ⊥))
+pub travels_stated : (ev : Events) (m : ℕ) (p : Post) → Stated ev m p → (travels p ≡ true) ↔ (IsSent ev m × (IsReceived ev m → ⊥))
 travels_stated ev m p = Posts.travels_stated ev m p
 
 -- ---- Lists that hold exactly what has a property

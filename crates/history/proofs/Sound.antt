@@ -1,6 +1,6 @@
 -- What a run keeps: its state is what its logs say.
 use Rattle.std.proofs.Common.{◌≡◌, ℕ, suc, ◌<◌, true, length, Some, arith}
-use Rattle.history.specs.Events.{Events, Logs, at, Sent}
+use Rattle.history.specs.Events.{Events, Logs, at, IsSent}
 use Rattle.history.specs.declared.calls.Event.TheVariants.{Mark, Send}
 use Rattle.history.specs.declared.calls.Event.{Event}
 use Rattle.history.specs.Messages.{Stated}
@@ -18,7 +18,7 @@ pub record Sound {V : Type 0} (M : Payload V) (z : Size) (s : State V) (logs : L
   pub rows_are : (u : ℕ) → Row M (at logs) u (length (logs u)) (s.rows u)
   -- a message's row is that of its sender at the send, or new
   pub sent_row : (m w j : ℕ) → at logs w j ≡ Some (Send m) → Row M (at logs) w j (s.message_rows m)
-  pub unsent_row : (m : ℕ) → (Sent (at logs) m → ⊥) → s.message_rows m ≡ new_row M.start
+  pub unsent_row : (m : ℕ) → (IsSent (at logs) m → ⊥) → s.message_rows m ≡ new_row M.start
   -- its state is what the events say
   pub posts_are : (m : ℕ) → Stated (at logs) m (s.posts m)
   pub once : Once (at logs)
@@ -50,10 +50,10 @@ module _ {V : Type 0} (M : Payload V) (z : Size) where
     pub sent_row_grows : (m : ℕ) → (x ≡ Send m → ⊥) → (w j : ℕ) → at (grown logs u x) w j ≡ Some (Send m) → Row M (at (grown logs u x)) w j (s.message_rows m)
     sent_row_grows m d w j e = grind (arith, grows, grown_cases)
 
-    pub unsent_before : (m : ℕ) → (Sent (at (grown logs u x)) m → ⊥) → Sent (at logs) m → ⊥
+    pub unsent_before : (m : ℕ) → (IsSent (at (grown logs u x)) m → ⊥) → IsSent (at logs) m → ⊥
     unsent_before m n p = n (p.0, p.1, grown_keeps logs u x p.0 p.1 (Send m) p.2)
 
-    pub once_grows : ((m : ℕ) → x ≡ Send m → Sent (at logs) m → ⊥) → Once (at (grown logs u x))
+    pub once_grows : ((m : ℕ) → x ≡ Send m → IsSent (at logs) m → ⊥) → Once (at (grown logs u x))
     once_grows fresh m a i b j e f = grind (arith, grown_cases)
 
     pub ranged_grows : u < z.units → ((l : ℕ) → x ≡ Mark l → z.fits u l ≡ true) → Ranged (at (grown logs u x)) z

@@ -25,9 +25,9 @@ abbrev pub Stands : Events → ℕ → ℕ → Type 0
 Stands ev u i = (e : Event) × (ev u i ≡ Some e)
 
 -- message m was sent
-abbrev pub Sent : Events → ℕ → Type 0
-Sent ev m = (u i : ℕ) × (ev u i ≡ Some (Send m))
+abbrev pub IsSent : Events → ℕ → Type 0
+IsSent ev m = (u i : ℕ) × (ev u i ≡ Some (Send m))
 
 -- message m was received
-abbrev pub Received : Events → ℕ → Type 0
-Received ev m = (u i : ℕ) × (ev u i ≡ Some (Receive m))
+abbrev pub IsReceived : Events → ℕ → Type 0
+IsReceived ev m = (u i : ℕ) × (ev u i ≡ Some (Receive m))

@@ -6,7 +6,7 @@ use Rattle.history.specs.declared.messages.Handling.{Handling}
 use Rattle.history.specs.declared.messages.Handling.TheVariants.{Sending, Receiving}
 use Rattle.history.specs.declared.refusals.Refusal.{Refusal}
 use Rattle.history.specs.declared.refusals.Refusal.TheVariants.{SentBefore, NeverSent, ReceivedBefore}
-use Rattle.history.specs.Events.{Events, Sent, Received}
+use Rattle.history.specs.Events.{Events, IsSent, IsReceived}
 
 -- The number of each state of a message.
 abbrev pub code : Post → ℕ
@@ -35,6 +35,6 @@ travels Delivered = false
 
 -- The state of message m is what the events say.
 abbrev pub Stated : Events → ℕ → Post → Type 0
-Stated ev m Unsent = (Sent ev m → ⊥) × (Received ev m → ⊥)
-Stated ev m OnItsWay = Sent ev m × (Received ev m → ⊥)
-Stated ev m Delivered = Sent ev m × Received ev m
+Stated ev m Unsent = (IsSent ev m → ⊥) × (IsReceived ev m → ⊥)
+Stated ev m OnItsWay = IsSent ev m × (IsReceived ev m → ⊥)
+Stated ev m Delivered = IsSent ev m × IsReceived ev m

@@ -1,7 +1,7 @@
 -- Calls, the size of a board, and what a real run can do, told by the events alone.
 use Rattle.std.specs.Prelude.{◌≡◌, ℕ, ◌<◌, Bool, true, if◌then◌else◌, List, [], ◌∷◌, ◌++◌, length, Some, ◌==◌}
 use Rattle.history.specs.declared.calls.Call.{Call}
-use Rattle.history.specs.Events.{Events, Logs, at, Sent, Received}
+use Rattle.history.specs.Events.{Events, Logs, at, IsSent, IsReceived}
 use Rattle.history.specs.declared.calls.Event.TheVariants.{Mark, Receive, Send}
 use Rattle.history.specs.declared.calls.Event.{Event}
 use Rattle.history.specs.Marks.{marks}
@@ -34,8 +34,8 @@ grown logs u x = put logs u (logs u ++ x ∷ [])
 -- What can come next in a run that has come to these logs: a send of a message not yet sent, a receipt of one on its way, a mark
 -- within the limits.
 abbrev pub Possible : Size → Logs → ℕ → Event → Type 0
-Possible z logs u (Send m) = (u < z.units) × (m < z.messages) × (Sent (at logs) m → ⊥)
-Possible z logs u (Receive m) = (u < z.units) × (m < z.messages) × Sent (at logs) m × (Received (at logs) m → ⊥)
+Possible z logs u (Send m) = (u < z.units) × (m < z.messages) × (IsSent (at logs) m → ⊥)
+Possible z logs u (Receive m) = (u < z.units) × (m < z.messages) × IsSent (at logs) m × (IsReceived (at logs) m → ⊥)
 Possible z logs u (Mark l) = (u < z.units) × (z.fits u l ≡ true) × (marks (at logs) u (length (logs u)) < z.limit)
 
 -- each call is possible after those before it

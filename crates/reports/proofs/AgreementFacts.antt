@@ -7,7 +7,7 @@ use Rattle.history.specs.Board.{History, new_history, acted, answer_to, outcomes
 use Rattle.history.specs.declared.calls.Answer.{Answer}
 use Rattle.history.specs.declared.calls.Answer.TheVariants.{Sent, Received, Marked}
 use Rattle.history.specs.Counting.{HowMany}
-use Rattle.history.specs.Events.{Logs, at, Sent, Received}
+use Rattle.history.specs.Events.{Logs, at, IsSent, IsReceived}
 use Rattle.history.specs.Laws.{answers_of}
 use Rattle.history.specs.Rows.{Payload}
 use Rattle.history.specs.Runs.{Size, SameByUnit}
@@ -89,5 +89,5 @@ reports_agree b d sound front same = record {
       (on_board (judge_in d) (some_in d) (all_in d) (recording_at b) (drop (recording_at b) b)))
       (on_board (judge_in d) (some_in d) (all_in d) (recording_at d) (drop (recording_at d) d)) same;
   left = λ x y p q. how_many_one x y
-      (subst (λ (logs : Logs). HowMany (λ p. Sent (at logs) p × (Received (at logs) p → ⊥)) x) (fun_ext same) (left_counted b x p)) (left_counted d y q);
+      (subst (λ (logs : Logs). HowMany (λ p. IsSent (at logs) p × (IsReceived (at logs) p → ⊥)) x) (fun_ext same) (left_counted b x p)) (left_counted d y q);
 }

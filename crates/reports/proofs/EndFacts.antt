@@ -7,7 +7,7 @@ use Rattle.std.proofs.Math.Path.{fun_ext}
 use Rattle.history.specs.declared.messages.Post.{Post}
 use Rattle.history.specs.declared.refusals.Refusal.{Refusal}
 use Rattle.history.specs.Counting.{Exactly, HowMany}
-use Rattle.history.specs.Events.{Logs, at, Sent, Received}
+use Rattle.history.specs.Events.{Logs, at, IsSent, IsReceived}
 use Rattle.history.specs.declared.calls.Event.TheVariants.{Send}
 use Rattle.history.specs.declared.calls.Event.{Event}
 use Rattle.history.specs.Limits.{most_marks}
@@ -76,7 +76,7 @@ sent_below z logs (c ∷ cs) r u i p e = go (u == c.unit) i e (λ j. sent_below 
 
 module _ {V : Type 0} (M : Payload V) (z : Size) where
   -- After calls that are all accepted, so many messages are sent and not received as are counted on their way.
-  run_counted : (cs : List Call) → accepted M z cs ≡ cs → HowMany (λ p. Sent (at (by_unit cs)) p × (Received (at (by_unit cs)) p → ⊥)) (left_among (run M z cs).state.posts z.messages)
+  run_counted : (cs : List Call) → accepted M z cs ≡ cs → HowMany (λ p. IsSent (at (by_unit cs)) p × (IsReceived (at (by_unit cs)) p → ⊥)) (left_among (run M z cs).state.posts z.messages)
   run_counted cs whole =
       let (l, x, e) = way_counted (run M z cs).state.posts z.messages in
       (l, exactly_like (λ p h. (stated p).0 h.1) (λ p h. (below p h.0, (stated p).1 h)) l x, e)
@@ -84,10 +84,10 @@ module _ {V : Type 0} (M : Payload V) (z : Size) where
       logs : (run M z cs).log ≡ by_unit cs
       logs = fun_ext (λ u. (accepts_runs M z cs).logged u ∙ ap (λ (ds : List Call). by_unit ds u) whole)
 
-      stated : (p : ℕ) → (travels ((run M z cs).state.posts p) ≡ true) ↔ (Sent (at (by_unit cs)) p × (Received (at (by_unit cs)) p → ⊥))
+      stated : (p : ℕ) → (travels ((run M z cs).state.posts p) ≡ true) ↔ (IsSent (at (by_unit cs)) p × (IsReceived (at (by_unit cs)) p → ⊥))
       stated p = travels_stated (at (by_unit cs)) p _ (subst (λ (log : Logs). Stated (at log) p ((run M z cs).state.posts p)) logs ((accepts_runs M z cs).posts_stated p))
 
-      below : (p : ℕ) → Sent (at (by_unit cs)) p → p < z.messages
+      below : (p : ℕ) → IsSent (at (by_unit cs)) p → p < z.messages
       below p (u, i, e) = sent_below z silence cs (subst (λ (ds : List Call). Run z ds) whole (accepts_runs M z cs).accepted_run) u i p e
 
   -- Calls after which a recording ends well are read whole, and it ends as what closes it.
@@ -139,7 +139,7 @@ module _ (m : Meaning ℕ) (some all : ℕ → Bool) where
 
   -- the messages that were sent and not received are counted, if a recording ends well
   abbrev Leaves : Transcript → Type 0
-  Leaves t = (left : ℕ) → t.end ≡ Ok left → HowMany (λ p. Sent (events_in t.calls) p × (Received (events_in t.calls) p → ⊥)) left
+  Leaves t = (left : ℕ) → t.end ≡ Ok left → HowMany (λ p. IsSent (events_in t.calls) p × (IsReceived (events_in t.calls) p → ⊥)) left
 
   -- Where any recording ends well, the messages that were sent and not received are counted.
   transcript_leaves : (place : ℕ) (bytes : List ℕ) → Leaves (transcript m some all place bytes)
@@ -151,7 +151,7 @@ module _ (m : Meaning ℕ) (some all : ℕ → Bool) where
 
 -- Where a recording ends well, the messages that were sent and not received are counted.
 pub left_counted : (b : List ℕ) (left : ℕ) → (transcript_in b).end ≡ Ok left
-    → HowMany (λ p. Sent (events_in (transcript_in b).calls) p × (Received (events_in (transcript_in b).calls) p → ⊥)) left
+    → HowMany (λ p. IsSent (events_in (transcript_in b).calls) p × (IsReceived (events_in (transcript_in b).calls) p → ⊥)) left
 left_counted b = transcript_leaves (judge_in b) (some_in b) (all_in b) (recording_at b) (drop (recording_at b) b)
 
 -- Where a recording ends well, all calls after its making are read.

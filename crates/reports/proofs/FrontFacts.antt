@@ -3,7 +3,7 @@ use Rattle.std.proofs.Common.{◌≡◌, ℕ, ◌+◌, ◌*◌, ◌<◌, ◌≤�
 use Rattle.std.specs.Option.{option_map, option_or}
 use Rattle.std.proofs.lemmas.Bool.{and_parts, leb-true, ltb-true}
 use Rattle.measures.specs.Formats.{states_in, labels_in, start_in, table_in, relabelling_labels_in, padded, first_over, over_fault, table_fault, head_fault, pattern_fault, relabelling_head_fault, relabelling_fault}
-use Rattle.measures.specs.Refusals.{counted}
+use Rattle.measures.specs.Refusals.{is_count}
 use Rattle.measures.proofs.Promises.{below_bound, padded_complete}
 use Rattle.reports.specs.declared.faults.Fault.TheVariants.{Pattern, Relabelling}
 use Rattle.text.specs.Inputs.{most_bytes}
@@ -15,9 +15,9 @@ over_none : (from : ℕ) (o : Option ℕ) → over_fault from o ≡ None → o �
 over_none from None e = refl
 over_none from (Some i) e = absurd (cc)
 
--- What is counted is from 1 to 64.
-counted_is : (n : ℕ) → counted n ≡ true → (0 < n) × (n ≤ 64)
-counted_is n is = let (some, few) = and_parts (nat_le 1 n) (nat_le n 64) is in let at_least = leb-true 1 n some in (omega arith, leb-true n 64 few)
+-- A count is from 1 to 64.
+is_count-range : (n : ℕ) → is_count n ≡ true → (0 < n) × (n ≤ 64)
+is_count-range n is = let (some, few) = and_parts (nat_le 1 n) (nat_le n 64) is in let at_least = leb-true 1 n some in (omega arith, leb-true n 64 few)
 
 -- A table without a fault has all of its entries, each below the bound.
 pub table_sound : (b : List ℕ) (from count bound : ℕ) → table_fault b from count bound ≡ None
@@ -48,15 +48,15 @@ module _ (b : List ℕ) (sound : front_fault b ≡ None) where
   head_sound =
       let long = (ask_parts _ _ _ parts_sound.0).1 in
       let tag = (ask_parts _ _ _ long).1 in
-      let states = ask_parts (counted (states_in b)) _ _ tag in
-      let labels = ask_parts (counted (labels_in b)) _ _ states.1 in
+      let states = ask_parts (is_count (states_in b)) _ _ tag in
+      let labels = ask_parts (is_count (labels_in b)) _ _ states.1 in
       let start = ask_parts (nat_lt (start_in b) (states_in b)) _ _ labels.1 in
-      let counted_states = counted_is (states_in b) states.0 in
-      (counted_states.0, counted_states.1, counted_is (labels_in b) labels.0, ltb-true (start_in b) (states_in b) start.0)
+      let states_range = is_count-range (states_in b) states.0 in
+      (states_range.0, states_range.1, is_count-range (labels_in b) labels.0, ltb-true (start_in b) (states_in b) start.0)
 
   -- There are 1 to 64 labels.
-  pub labels_counted : (0 < labels_in b) × (labels_in b ≤ 64)
-  labels_counted = head_sound.2
+  pub labels_in_range : (0 < labels_in b) × (labels_in b ≤ 64)
+  labels_in_range = head_sound.2
 
   -- The start is a state.
   pub start_below : start_in b < states_in b
@@ -69,8 +69,8 @@ module _ (b : List ℕ) (sound : front_fault b ≡ None) where
       (table_sound b 12 (states_in b * labels_in b) (states_in b) parts_sound.1).1
 
   -- The relabelling has 1 to 64 labels.
-  pub count_counted : (0 < relabelling_labels_in b (relabelling_at b)) × (relabelling_labels_in b (relabelling_at b) ≤ 64)
-  count_counted =
+  pub count_in_range : (0 < relabelling_labels_in b (relabelling_at b)) × (relabelling_labels_in b (relabelling_at b) ≤ 64)
+  count_in_range =
       let tag = (ask_parts _ _ _ parts_sound.2).1 in
       let long = (ask_parts _ _ _ tag).1 in
-      counted_is (relabelling_labels_in b (relabelling_at b)) (ask_parts (counted (relabelling_labels_in b (relabelling_at b))) _ _ long).0
+      is_count-range (relabelling_labels_in b (relabelling_at b)) (ask_parts (is_count (relabelling_labels_in b (relabelling_at b))) _ _ long).0

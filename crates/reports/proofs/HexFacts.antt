@@ -4,7 +4,7 @@ use Rattle.std.proofs.Math.Seq.{take-add, take-append_seam}
 use Rattle.std.proofs.Math.Nat.{div-div-eq-div-mul, pow-suc}
 use Rattle.std.specs.Int.{w64, byte_at, bytes_low_first, to_le_bytes}
 use Rattle.text.specs.Hex.{digit_in_hex, hex}
-use Rattle.text.proofs.HexText.{byte_is}
+use Rattle.text.proofs.Promises.{byte_is}
 use Rattle.reports.specs.declared.buffers.TheConstants.{HEX_PAIRS}
 use Rattle.reports.proofs.PairFacts.{pair_at}
 

@@ -11,7 +11,7 @@ use Rattle.measures.specs.declared.refusals.Refusal.TheVariants.{NotAPattern, St
 use Rattle.measures.specs.Automata.{state_sets}
 use Rattle.measures.specs.Formats.{first_over, over_fault, table_fault, little_endian, states_in, labels_in, start_in, finals_in, table_in, head_fault, pattern_fault, relabelling_labels_in, entries_in, relabelling_head_fault, relabelling_fault, padded}
 use Rattle.measures.specs.Measures.{Meaning}
-use Rattle.measures.specs.Refusals.{fault, ask, counted}
+use Rattle.measures.specs.Refusals.{fault, ask, is_count}
 use Rattle.measures.specs.Relabellings.{relabelled}
 use Rattle.text.specs.Inputs.{most_bytes}
 use Rattle.reports.specs.declared.faults.Fault.TheVariants.{Pattern, Relabelling}
@@ -47,7 +47,7 @@ module _ (b d : List ℕ) (p : ℕ) (agree : AgreeTo p b d) (within_b : p ≤ le
       let within_d = reaches_too p b d agree within_b in
       let tag = ask_parts (nat_lt at (length b) && slice_index b at == 0x30) _ _ none in
       ask_none _ _ _ (begins_same at (length b) (length d) (slice_index d at) (slice_index b at) (omega arith) (same_byte p b d agree at (omega arith)) tag.0)
-      (ask_none _ _ _ (grind (arith, nat_tests)) (ap (λ (c : ℕ). ask (counted c) (fault LabelCount (at + 1)) None) (same_byte p b d agree (at + 1) inside) ∙ (ask_parts _ _ _ tag.1).1))
+      (ask_none _ _ _ (grind (arith, nat_tests)) (ap (λ (c : ℕ). ask (is_count c) (fault LabelCount (at + 1)) None) (same_byte p b d agree (at + 1) inside) ∙ (ask_parts _ _ _ tag.1).1))
 
   -- and the whole of it.
   relabelling_kept : (at n : ℕ) → at + 2 + relabelling_labels_in b at ≤ p → relabelling_fault b at n ≡ None → relabelling_fault d at n ≡ None
@@ -60,8 +60,8 @@ module _ (b d : List ℕ) (p : ℕ) (agree : AgreeTo p b d) (within_b : p ≤ le
 abbrev head_rest : ℕ → ℕ → ℕ → ℕ → ℕ → Option reader_fault
 head_rest first states labels start finals =
     ask (first == 0x20) (fault NotAPattern 0)
-    (ask (counted states) (fault StateCount 1)
-    (ask (counted labels) (fault LabelCount 2)
+    (ask (is_count states) (fault StateCount 1)
+    (ask (is_count labels) (fault LabelCount 2)
     (ask (nat_lt start states) (fault StartState 3)
     (ask (nat_lt finals (2 ^ states)) (fault FinalStates 4)
     None))))

@@ -7,7 +7,7 @@ use Rattle.std.specs.Option.{option_map}
 use Rattle.std.proofs.Math.Path.{fun_ext}
 use Rattle.std.proofs.lemmas.List.{length-map}
 use Rattle.std.proofs.lemmas.Option.{same_Some, slice_get-map}
-use Rattle.bitset.proofs.Members.{same_members}
+use Rattle.bitset.proofs.Promises.{same_members}
 use Rattle.history.specs.Board.{Reply, mark_answer, outcomes, run, accepted}
 use Rattle.history.specs.declared.calls.Answer.{Answer}
 use Rattle.history.specs.declared.calls.Answer.TheVariants.{Sent, Received}

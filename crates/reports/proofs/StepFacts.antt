@@ -5,6 +5,7 @@ use Rattle.std.proofs.Common.{◌≡◌, ℕ, ◌+◌, Bool, true, List, [], ◌
 use Rattle.history.specs.declared.refusals.Refusal.{Refusal}
 use Rattle.history.specs.Board.{State, next}
 use Rattle.history.specs.declared.calls.Answer.{Answer}
+use Rattle.history.specs.declared.calls.Call.{Call}
 use Rattle.history.specs.declared.calls.Answer.TheVariants.{Sent, Received, Marked}
 use Rattle.history.specs.Limits.{most_marks}
 use Rattle.causality.specs.Boards.{Memory, Shows, left_among, Follows, Obeys, has_room, setup}

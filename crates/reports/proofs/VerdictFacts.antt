@@ -18,7 +18,7 @@ use Rattle.measures.specs.Words.{Word, Labels}
 use Rattle.measures.proofs.Promises.{meets_or, within_or, some_decided, marks_judged, holds_judges, accepted_decides, recognizes, translated_judges, ranged}
 use Rattle.reports.specs.Laws.{in_pattern}
 use Rattle.reports.specs.Reports.{relabelling_at, front_fault, judge_in, some_in, all_in}
-use Rattle.reports.proofs.FrontFacts.{labels_counted, start_below, table_below, count_counted}
+use Rattle.reports.proofs.FrontFacts.{labels_in_range, start_below, table_below, count_in_range}
 
 -- What a set says of the longest flows that end at event i of unit u: it holds exactly the states to which their words lead the pattern, once
 -- relabelled, and its two answers tell whether some, and whether each, of these words is accepted.
@@ -47,30 +47,30 @@ module _ (b : List ℕ) (sound : front_fault b ≡ None) where
   -- The relabelled pattern is a lawful measure.
   laws : Lawful (judge_in b) admits
   laws =
-      relabelled_lawful entries (relabelling_labels_in b (relabelling_at b)) inner (count_counted b sound)
-      (state_sets_lawful (states_in b) (labels_in b) (start_in b) (padded 4096 (table_in b)) (labels_counted b sound) (start_below b sound) (table_below b sound))
+      relabelled_lawful entries (relabelling_labels_in b (relabelling_at b)) inner (count_in_range b sound)
+      (state_sets_lawful (states_in b) (labels_in b) (start_in b) (padded 4096 (table_in b)) (labels_in_range b sound) (start_below b sound) (table_below b sound))
 
   -- An answer that the pattern shows of words is one that the relabelled pattern shows of relabelled words.
   relabelled_judges : {op : Bool → Bool → Bool} {answer : ℕ → Bool} {good : Word → Type 0} → Judges op inner admits answer good
       → Judges op (judge_in b) admits answer (λ w. good (in_pattern b w))
-  relabelled_judges = translated_judges entries (relabelling_labels_in b (relabelling_at b)) inner (labels_counted b sound).0
+  relabelled_judges = translated_judges entries (relabelling_labels_in b (relabelling_at b)) inner (labels_in_range b sound).0
 
   -- The pattern recognizes the words that its bytes accept.
   pattern_recognizes : Recognizes b inner (some_in b) (all_in b)
-  pattern_recognizes = recognizes b (states_in b) (labels_in b) (start_in b) (finals_in b) (padded 4096 (table_in b)) parts (labels_counted b sound) (start_below b sound) (table_below b sound)
+  pattern_recognizes = recognizes b (states_in b) (labels_in b) (start_in b) (finals_in b) (padded 4096 (table_in b)) parts (labels_in_range b sound) (start_below b sound) (table_below b sound)
 
   -- An answer that goes through unions, and says of one word whether the pattern accepts it, judges the relabelled words.
   judges : {op : Bool → Bool → Bool} (answer : ℕ → Bool) → ((x y : ℕ) → answer (bit_or x y) ≡ op (answer x) (answer y))
       → ((w : Word) → Labels (labels_in b) w → answer (carried inner w) ≡ accepts b w) → Judges op (judge_in b) admits answer (λ w. IsTrue (accepts b (in_pattern b w)))
   judges answer joins is = relabelled_judges {good = λ w. IsTrue (accepts b w)} (record {
     joins = λ x y _ _. joins x y;
-    decides = accepted_decides b (states_in b) (labels_in b) (start_in b) (finals_in b) (padded 4096 (table_in b)) parts (labels_counted b sound) (start_below b sound) (table_below b sound) answer is;
+    decides = accepted_decides b (states_in b) (labels_in b) (start_in b) (finals_in b) (padded 4096 (table_in b)) parts (labels_in_range b sound) (start_below b sound) (table_below b sound) answer is;
   })
 
   -- Whether a set holds state q says of one word whether it leads there, once relabelled.
   judges_state : (q : ℕ) → Judges ◌||◌ (judge_in b) admits (λ set. has set q) (λ w. state_after b (in_pattern b w) ≡ q)
   judges_state q =
-      relabelled_judges (holds_judges b (states_in b) (labels_in b) (start_in b) (finals_in b) (padded 4096 (table_in b)) parts (labels_counted b sound) (start_below b sound) (table_below b sound) q)
+      relabelled_judges (holds_judges b (states_in b) (labels_in b) (start_in b) (finals_in b) (padded 4096 (table_in b)) parts (labels_in_range b sound) (start_below b sound) (table_below b sound) q)
 
   -- The value of each mark of every run says so of its longest flows.
   pub sets_tell : AtMarks (judge_in b) (SetTells b)

@@ -5,7 +5,7 @@ use Rattle.bitset.specs.Sets.{Member}
 use Rattle.history.specs.declared.refusals.Refusal.{Refusal}
 use Rattle.history.specs.Board as board
 use Rattle.history.specs.Counting.{HowMany}
-use Rattle.history.specs.Events.{Events, Sent, Received, Place}
+use Rattle.history.specs.Events.{Events, IsSent, IsReceived, Place}
 use Rattle.history.specs.declared.calls.Event.TheVariants.{Mark}
 use Rattle.history.specs.Flows.{Longest, word}
 use Rattle.history.specs.HappenedBefore.{Immediate}
@@ -108,7 +108,7 @@ Breaks b place (Refused e) = RefusedMaking b place e ⊎ (AfterCalls b place × 
 -- What is true of a report on an input whose pattern and relabelling are accepted.
 pub record ReportTrue (b : List ℕ) : Type 0 where
   -- the board has the size that the making asks for
-  pub measured_size : (n k : ℕ) (rest : List ℕ)
+  pub sized : (n k : ℕ) (rest : List ℕ)
       → first_command (drop (recording_at b) b) ≡ Ok (commands.Make n k, rest) → make_refusal n k true ≡ None
       → ((transcript_in b).units ≡ n) × ((transcript_in b).messages ≡ k)
   -- the calls read, up to the end or to where the recording breaks off, are what a real run could do
@@ -131,7 +131,7 @@ pub record ReportTrue (b : List ℕ) : Type 0 where
       × Tells b (events_in (before ++ call u (Mark l) ∷ [])) u (length (by_unit before u)) line
   -- at the end, the messages that were sent and not received are counted
   pub left_counted : (left : ℕ) → (transcript_in b).end ≡ Ok left
-      → HowMany (λ p. Sent (events_in (transcript_in b).calls) p × (Received (events_in (transcript_in b).calls) p → ⊥)) left
+      → HowMany (λ p. IsSent (events_in (transcript_in b).calls) p × (IsReceived (events_in (transcript_in b).calls) p → ⊥)) left
   -- where the recording breaks off, its lines are exactly those of its part before the break
   pub part : (f : RecordingFault) → (transcript_in b).end ≡ Err f
       → (front_fault (take f.place b) ≡ None) × SameFront b (take f.place b)

@@ -12,7 +12,7 @@ use measures::{Judge, Measure, Pattern, Relabelling};
 use std::alloc::{AllocError, Global};
 use std::io;
 use std::io::{Read, Write};
-use text::{MOST_BYTES, read_input};
+use text::{Cursor, MOST_BYTES, read_input};
 
 // The judge at the front of an input that is not too long, its pattern under its relabelling; and the byte where the recording begins.
 fn read(input: &[u8]) -> Result<(Relabelling<Pattern>, usize), Fault>
@@ -29,9 +29,10 @@ fn read(input: &[u8]) -> Result<(Relabelling<Pattern>, usize), Fault>
         return Err(Fault::TooLong);
     }
     let pattern = Pattern::read(input).map_err(|fault| Fault::Pattern(fault))?;
-    let at = pattern.size();
-    let judge = Relabelling::read(input, at, pattern).map_err(|fault| Fault::Relabelling(fault))?;
-    let from = at + judge.size();
+    let place = pattern.size();
+    let after = Cursor { input, place };
+    let judge = Relabelling::read(after, pattern).map_err(|fault| Fault::Relabelling(fault))?;
+    let from = place + judge.size();
     Ok((judge, from))
 }
 

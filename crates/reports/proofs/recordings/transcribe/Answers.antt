@@ -46,9 +46,9 @@ returns-clause-tells g c =
     let by_size = made_by_size n k (omega arith) c.new-clocks.result c.new-flags.result c.new-values.result (replicate most_messages unsent)
     c.new-clocks.ensures.width c.new-flags.ensures.width c.new-values.ensures.width (search rules) (search rules) (search rules) (length-replicate most_messages unsent) in
     let made = result_with_reason-ok c.make-made.result c.with_reason.ensures (result_with_place-ok a.place c.with_reason.result c.with_place-2.ensures c.in_ok-board.was) in
-    let (allowed, units, messages, payload) = match_result-ok _ _ c.make-made.result c.make-made.ensures.board board made in
+    let (allowed, is) = match_result-ok _ _ c.make-made.result c.make-made.ensures.board board made in
     board_made (g.J.Measure.meaning a.judge) (g.J.Judge.some_of a.judge) (g.J.Judge.all_of a.judge) a.place a.bytes.now rest n k first (sym by_size ∙ allowed) old new c.follow.result
-    (made_with g.J.Measure.meaning g.J.Judge.some_of g.J.Judge.all_of a.judge board.payload.measure (ap (λ p. p.measure) payload) n board.units units k board.messages messages
+    (made_with g.J.Measure.meaning g.J.Judge.some_of g.J.Judge.all_of a.judge board.payload.measure (ap (λ p. p.measure) is.payload_is) n board.units is.units_are k board.messages is.messages_are
     (memory c.make-made.new.clocks c.make-made.new.flags c.make-made.new.values c.make-made.new.posts) old new (a.place + making_size) rest c.follow.result c.follow.ensures.tells
     (new_state (measured_payload (g.J.Measure.meaning a.judge) n)) (c.make-made.ensures.begins.makes.state allowed))
 

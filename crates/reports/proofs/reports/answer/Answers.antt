@@ -2,7 +2,7 @@ use Rattle.std.proofs.Common.{rules}
 use Rattle.std.proofs.lemmas.Result.{on_ok_weaker}
 use Rattle.reports.specs.Reports.{report_on}
 use Rattle.reports.proofs.TooLongFacts.{report_on-too_long}
-use Rattle.text.proofs.Answered.{answered}
+use Rattle.text.proofs.Promises.{answered}
 use Rattle.reports.proofs.reports.answer.Goals as goal
 
 pub returns : goal.returns
