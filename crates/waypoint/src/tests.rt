@@ -1,10 +1,10 @@
 // The waypoint on a board: the verdict on the sound of the lost wake-up, and of a walk whose player
 // waits first.
 use super::{Passages, Waypoint};
-use causality::{Board, Call, Event};
+use causality::Board;
 use grid::Grid;
-use history::{Post, Refusal};
-use measures::{JudgedMark, Measure, Measured, Verdict, mark_judged};
+use history::{Call, Event, Marked, Post, Refusal};
+use measures::{JudgedValue, Measure, Measured, Verdict, mark_judged};
 use std::test::Fail;
 
 // The label of a mark where a beacon is heard.
@@ -52,10 +52,10 @@ fn lost_wake_up() -> [Call; 6] {
     ]
 }
 
-// What the player's sound is told after some calls, on a board of two units and two messages.
-fn sound_after(calls: &[Call]) -> Result<JudgedMark<Passages>, Refusal> {
+// What the player's sound is answered after some calls, on a board of two units and two messages.
+fn sound_after(calls: &[Call]) -> Result<Marked<JudgedValue<Passages>>, Refusal> {
     let (mut clocks, mut flags) = ([0; 8], [false; 8]);
-    let (mut values, mut posts) = ([PASSES_BEACON.start(); 8], [Post::Unsent; 2]);
+    let (mut values, mut posts) = ([PASSES_BEACON.start(); 8], [Post::UNSENT; 2]);
     let clocks = &mut Grid::new(&mut clocks, 2);
     let flags = &mut Grid::new(&mut flags, 2);
     let values = &mut Grid::new(&mut values, 2);
@@ -71,25 +71,25 @@ fn sound_after(calls: &[Call]) -> Result<JudgedMark<Passages>, Refusal> {
 
 #[test]
 fn the_one_flow_passes(rt: HostRuntime) -> Result<(), Fail> {
-    let told = sound_after(&player_waits_first())?;
+    let sound = sound_after(&player_waits_first())?;
     let yes = Verdict {
         some: true,
         all: true,
     };
-    assert_eq!(rt; told.mark.predecessors, 1);
-    assert_eq!(rt; told.verdict, yes);
+    assert_eq!(rt; sound.predecessors, 1);
+    assert_eq!(rt; sound.value.verdict, yes);
     Ok(())
 }
 
 #[test]
 fn one_of_two_flows_passes(rt: HostRuntime) -> Result<(), Fail> {
-    let told = sound_after(&lost_wake_up())?;
+    let sound = sound_after(&lost_wake_up())?;
     let divided = Verdict {
         some: true,
         all: false,
     };
-    assert_eq!(rt; told.mark.predecessors, 3);
-    assert_eq!(rt; told.verdict, divided);
+    assert_eq!(rt; sound.predecessors, 3);
+    assert_eq!(rt; sound.value.verdict, divided);
     Ok(())
 }
 
