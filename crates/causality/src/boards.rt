@@ -3,7 +3,7 @@
 //! Each call asks its questions first, each once and in its order, and the first no refuses it; what it does then cannot fail. The board's rows
 //! and the states of its messages lie in memory that the caller brings to each call: a grid of clocks, one of flags and one of values, each as
 //! wide as the board has units, with row u for unit u and row units + m for message m; and a slice with a place for each message.
-ghost use Rattle.std.specs.Prelude.{◌≡◌, ◌+◌, ◌*◌, ◌<◌, ◌≤◌, ◌++◌, drop, length, replicate, count_by, slice_set};
+ghost use Rattle.std.specs.Prelude.{◌≡◌, ◌+◌, ◌*◌, ◌<◌, ◌≤◌, ◌++◌, drop, length, replicate, count_by};
 ghost use Rattle.history.specs.Limits.{most_messages, most_units};
 ghost use Rattle.history.specs.Messages.{travels, unsent};
 
@@ -26,8 +26,7 @@ pub struct Board<P: Payload> {
 }
 
 impl<P: Payload> Board<P> {
-    ghost use Rattle.std.specs.Prelude.{◌≡◌, ℕ, ◌+◌, ◌*◌, ◌<◌, ◌≤◌, length, true, MatchResult, slice_index, slice_index_or};
-    ghost use Rattle.grid.specs.Rows.{row as row_of};
+    ghost use Rattle.std.specs.Prelude.{◌≡◌, ℕ, ◌+◌, ◌*◌, ◌<◌, ◌≤◌, length, replicate, true, MatchResult, slice_index, slice_index_or, slice_set};
     ghost use Rattle.history.specs.declared.calls.Answer.TheVariants.{Sent, Received, Marked as marked};
     ghost use Rattle.history.specs.declared.calls.Call.{Call};
     ghost use Rattle.history.specs.declared.calls.Event.TheVariants.{Mark, Receive, Send};
@@ -319,13 +318,8 @@ impl<P: Payload> Board<P> {
         let start = unit * self.units;
         let end = start + self.units;
         let predecessors = take_positions(&mut flags.cells[start..end]);
-        let value = self.worth_in(values, predecessors, unit, label);
-        reset_row(
-            &mut values.cells[start..end],
-            unit,
-            self.payload.start(),
-            value,
-        );
+        let row = &mut values.cells[start..end];
+        let value = self.put_value(row, predecessors, unit, label);
         clocks.cells[start + unit] = clock;
         flags.cells[start + unit] = true;
         Ok(Marked {
@@ -335,29 +329,29 @@ impl<P: Payload> Board<P> {
         })
     }
 
-    // What a mark is worth by the set of its predecessors' units and the values of its unit's row.
-    fn worth_in(
+    // The value of a mark, by the set of the units that have an immediate predecessor of it and the values of its unit's row. The row is reset, with
+    // that value in the unit's own cell.
+    fn put_value(
         &self,
-        values: &Grid<'_, P::Value>,
+        row: &mut [P::Value],
         predecessors: u64,
         unit: usize,
         label: u8,
     ) -> P::Value
-        requires width { values.now.width ≡ self.now.units }
-        requires row { unit * self.now.units + self.now.units ≤ length values.now.cells.now }
-        ensures {
-            let cells = row_of values.now.cells.now self.now.units unit in
-            (n : ℕ) (r : ℕ → Cell P.Value) → Reads (P.rules self.now.payload).start n r predecessors cells
-                → result ≡ (P.rules self.now.payload).make n r unit label
+        ensures value {
+            let rules = (setup_of self.now).rules in
+            (n : ℕ) (r : ℕ → Cell P.Value) → Reads rules.start n r predecessors row.old
+                → result ≡ rules.make n r unit label
+        }
+        ensures row {
+            let start = (setup_of self.now).rules.start in
+            row.new ≡ slice_set (replicate (length row.old) start) unit result
         }
     {
-        let start = unit * self.units;
-        self.payload.worth(
-            predecessors,
-            &values.cells[start..start + self.units],
-            unit,
-            label,
-        )
+        let value = self.payload.worth(predecessors, row, unit, label);
+        fill(row, self.payload.start());
+        put(row, unit, value);
+        value
     }
 
     /// What became of a message: never sent, on its way, or received. Refuses memory that is too short (3) and a message that is not there (5).
@@ -404,14 +398,6 @@ impl<P: Payload> Board<P> {
         }
         Ok(travelling(&posts[..self.messages]))
     }
-}
-
-// Sets each cell of a row, and then the one of a unit.
-fn reset_row<T: Copy>(row: &mut [T], unit: usize, v: T, own: T)
-    ensures { row.new ≡ slice_set (replicate (length row.old) v) unit own }
-{
-    fill(row, v);
-    put(row, unit, own);
 }
 
 // The first messages become as they are before anything is sent.

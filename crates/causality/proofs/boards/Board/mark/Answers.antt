@@ -1,16 +1,11 @@
-use Rattle.std.proofs.Common.{◌≡◌, ◌+◌, ◌-◌, ◌*◌, ◌<◌, cond, eqb, false, true, refl, sym, ap, arith, rules}
-use Rattle.grid.proofs.Promises.{row_same, cell_set}
+use Rattle.std.proofs.Common.{◌≡◌, ℕ, take, drop, subst, sym, ◌+◌, ◌-◌, ◌*◌, ◌<◌, false, true, refl, arith, rules}
+use Rattle.grid.proofs.Promises.{cell_set}
 use Rattle.causality.specs.Boards.{memory}
+use Rattle.causality.specs.Payloads.{Reads}
 use Rattle.causality.proofs.Calling.{room_row}
 use Rattle.causality.proofs.Marks.{noted, flagged_row}
 use Rattle.causality.proofs.Writing.{filled_then_set, reset_row_is}
 use Rattle.causality.proofs.boards.Board.mark.Goals as goal
-
-pub worth_in-value-requires-clause-row : goal.worth_in-value-requires-clause-row
-worth_in-value-requires-clause-row g c =
-    let a = c.args in
-    let r = c.in_ok-own.ensures.0.ready in
-    room_row r.values a.unit (omega (arith, r.unit))
 
 pub returns : goal.returns
 returns g c =
@@ -30,12 +25,11 @@ returns g c =
       follows = noted rules n k u a.label may.label old _ r may.below _ _ _
           (cell_set n u 0 a.clocks.now.cells.now (room_row r.clocks u (omega arith)) u _ _ hu refl)
           (filled_then_set r.flags false u size there whole false true _ _ hu c.take_positions-predecessors.ensures.flags refl)
-          (row_same
-          (reset_row_is r.values rules.start u size there whole c.start.result c.worth_in-value.result _ hu c.reset_row.ensures)
-          (λ j. cond (eqb j u) c.worth_in-value.result rules.start) (λ j h. ap (cond (eqb j u) c.worth_in-value.result) c.start.ensures))
+          (reset_row_is r.values rules.start u size there whole rules.start c.put_value-value.result _ hu c.put_value-value.ensures.row)
           refl
           (omega (arith, is))
           (flagged_row r.flags (omega (arith, a.self.now.few_units)) u size there whole _ c.take_positions-predecessors.ensures.positions)
-          (λ t reads. c.worth_in-value.ensures n t reads);
+          (λ t reads. c.put_value-value.ensures.value n t
+          (subst (λ (w : ℕ). Reads rules.start n t c.take_positions-predecessors.result (take w (drop (u * n) a.values.now.cells.now))) (sym whole) reads));
       loans = search rules;
     }
