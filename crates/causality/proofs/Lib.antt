@@ -1,12 +1,12 @@
-mod Calling
-mod Comparing
-mod Following
-mod Leaving
-mod Making
-mod Marks
-mod Merges
+mod ComparisonFacts
+mod FollowFacts
+mod GridFacts
+mod LeftFacts
+mod MakeFacts
+mod MarkFacts
+mod MemoryFacts
+mod MergeFacts
 pub mod Promises
-mod Receiving
-mod Sending
-mod Showing
-mod Writing
+mod ReceiptFacts
+mod RoomFacts
+mod SendFacts

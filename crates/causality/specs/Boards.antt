@@ -9,12 +9,12 @@ use Rattle.history.specs.declared.messages.Post.{Post}
 use Rattle.history.specs.declared.refusals.Refusal.{Refusal}
 use Rattle.history.specs.declared.refusals.Refusal.TheVariants.{UnitCount, MessageCount, MemoryTooShort, NoSuchMessage}
 use Rattle.history.specs.Counting.{count_below}
-use Rattle.history.specs.Messages.{unsent, travels}
+use Rattle.history.specs.Messages.{unsent, is_on_its_way}
 use Rattle.history.specs.Refusals.{ask}
 use Rattle.history.specs.Rows.{Payload}
 use Rattle.history.specs.Limits.{most_units, most_messages}
 use Rattle.history.specs.Runs.{Size}
-use Rattle.history.specs.Board.{State, new_state, next, outcome}
+use Rattle.history.specs.Board.{Contents, new_contents, next_contents, outcome}
 use Rattle.causality.specs.declared.boards.Board.{Board}
 use Rattle.causality.specs.declared.payloads.Payload.{Ghosts}
 use Rattle.causality.specs.Payloads.{PayloadRules, payload_on, size_on}
@@ -66,12 +66,12 @@ pub record SameLoans {V : Type 0} (old new : Memory V) : Type 0 where
 
 -- One grid of a board of n units and k messages holds one part of each cell: cell j of unit u's row at u * n + j, and of message m's at
 -- (n + m) * n + j.
-pub record Holds {V X : Type 0} (part : Cell V → X) (other : X) (n k : ℕ) (xs : List X) (s : State V) : Type 0 where
+pub record Holds {V X : Type 0} (part : Cell V → X) (other : X) (n k : ℕ) (xs : List X) (s : Contents V) : Type 0 where
   pub rows : (u j : ℕ) → u < n → j < n → slice_index_or xs (u * n + j) other ≡ part (s.rows u j)
   pub message_rows : (m j : ℕ) → m < k → j < n → slice_index_or xs ((n + m) * n + j) other ≡ part (s.message_rows m j)
 
 -- The memory shows the state: each of the n + k rows, and what became of each of the k messages. Of memory beyond them it says nothing.
-pub record Shows {V : Type 0} (start : V) (n k : ℕ) (memory : Memory V) (s : State V) : Type 0 where
+pub record Shows {V : Type 0} (start : V) (n k : ℕ) (memory : Memory V) (s : Contents V) : Type 0 where
   pub clocks : Holds (λ (c : Cell V). c.clock) 0 n k memory.clocks.cells.now s
   pub flags : Holds (λ (c : Cell V). c.flag) false n k memory.flags.cells.now s
   pub values : Holds (λ (c : Cell V). c.value) start n k memory.values.cells.now s
@@ -79,7 +79,7 @@ pub record Shows {V : Type 0} (start : V) (n k : ℕ) (memory : Memory V) (s : S
 
 -- Every memory shows a state: that whose rows and messages are read off it. So what is said of each state that a memory shows is never idle.
 abbrev pub EachShows : {V : Type 0} → V → ℕ → ℕ → Type 0
-EachShows {V} start n k = (memory : Memory V) → (s : State V) × Shows start n k memory s
+EachShows {V} start n k = (memory : Memory V) → (s : Contents V) × Shows start n k memory s
 
 -- What stands from a place on is as it was.
 pub record SameFrom {X : Type 0} (other : X) (place : ℕ) (old new : List X) : Type 0 where
@@ -96,14 +96,14 @@ pub record SameBeyond {V : Type 0} (start : V) (n k : ℕ) (old new : Memory V) 
 -- What a send, a receipt or a mark owes, whichever state its memory shows: the answer or the refusal of the rules, and memory that shows the
 -- state after it. `room` says whether the memory is long enough, the first question of each call.
 pub record Follows {V : Type 0} (M : Payload V) (z : Size) (c : Call) (room : Bool) (old new : Memory V) (r : Result (Answer V) Refusal) : Type 0 where
-  pub answer : (s : State V) → Shows M.start z.units z.messages old s → r ≡ (if room then outcome M z s c else Err MemoryTooShort)
-  pub state : (s : State V) → Shows M.start z.units z.messages old s → Shows M.start z.units z.messages new (if room then next M z s c else s)
+  pub answer : (s : Contents V) → Shows M.start z.units z.messages old s → r ≡ (if room then outcome M z s c else Err MemoryTooShort)
+  pub contents : (s : Contents V) → Shows M.start z.units z.messages old s → Shows M.start z.units z.messages new (if room then next_contents M z s c else s)
   pub beyond : SameBeyond M.start z.units z.messages old new
   pub refused : (e : Refusal) → r ≡ Err e → new ≡ old
 
 -- What the making of a board owes: memory that shows a new board, or, where it is refused, the memory as it was.
 pub record Makes {V : Type 0} (M : Payload V) (n k : ℕ) (refusal : Option Refusal) (old new : Memory V) : Type 0 where
-  pub state : refusal ≡ None → Shows M.start n k new (new_state M)
+  pub contents : refusal ≡ None → Shows M.start n k new (new_contents M)
   pub beyond : SameBeyond M.start n k old new
   pub refused : (e : Refusal) → refusal ≡ Some e → new ≡ old
 
@@ -123,7 +123,7 @@ state_answer k room posts m = if room then (if nat_lt m k then Ok (slice_index_o
 
 -- how many of the messages below k are on their way
 abbrev pub left_among : (ℕ → Post) → ℕ → ℕ
-left_among posts k = count_below (λ m. travels (posts m)) k
+left_among posts k = count_below (λ m. is_on_its_way (posts m)) k
 
 -- their number, or why it is not told
 abbrev pub left_answer : ℕ → Bool → List Post → Result ℕ Refusal

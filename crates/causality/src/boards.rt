@@ -5,7 +5,7 @@
 //! wide as the board has units, with row u for unit u and row units + m for message m; and a slice with a place for each message.
 ghost use Rattle.std.specs.Prelude.{◌≡◌, ◌+◌, ◌*◌, ◌<◌, ◌≤◌, ◌++◌, drop, length, replicate, count_by};
 ghost use Rattle.history.specs.Limits.{most_messages, most_units};
-ghost use Rattle.history.specs.Messages.{travels, unsent};
+ghost use Rattle.history.specs.Messages.{is_on_its_way, unsent};
 
 use super::merging::merge_rows;
 use super::payloads::Payload;
@@ -31,7 +31,7 @@ impl<P: Payload> Board<P> {
     ghost use Rattle.history.specs.declared.calls.Call.{Call};
     ghost use Rattle.history.specs.declared.calls.Event.TheVariants.{Mark, Receive, Send};
     ghost use Rattle.history.specs.declared.cells.Cell.{Cell};
-    ghost use Rattle.history.specs.Messages.{moved, unsent};
+    ghost use Rattle.history.specs.Messages.{handled_post, unsent};
     ghost use Rattle.history.specs.Runs.{call};
     ghost use Rattle.causality.specs.Boards.{Begins, EachShows, MakeAnswer, Obeys, has_all_rows, has_room, left_answer, memory, payload_of, setup, setup_of, state_answer};
     ghost use Rattle.causality.specs.Calls.{IsRefused, MayMark, Ready, handling_event, own_clock_in, result_as};
@@ -100,7 +100,7 @@ impl<P: Payload> Board<P> {
 
     /// Whether the memory is long enough: the first question of each call. Whatever a memory holds, it shows a state (`shows`), so the promises
     /// of the calls, which speak of each state that the memory shows, speak of every memory.
-    #[tactic(auto, using(crate::proofs::Leaving::each_shows))]
+    #[tactic(auto, using(crate::proofs::LeftFacts::each_shows))]
     pub fn has_room(
         &self,
         clocks: &Grid<'_, Clock>,
@@ -171,7 +171,7 @@ impl<P: Payload> Board<P> {
             let a = memory clocks.now flags.now values.now posts.now in
             MatchResult result
                 (λ post. Ready b.units b.messages a unit × (message < b.messages)
-                    × (moved (slice_index_or posts.now message unsent) handling ≡ Ok post))
+                    × (handled_post (slice_index_or posts.now message unsent) handling ≡ Ok post))
                 (λ e. IsRefused b a (call unit (handling_event handling message)) e)
         }
     {
@@ -379,7 +379,7 @@ impl<P: Payload> Board<P> {
     }
 
     /// How many messages are on their way. Refuses memory that is too short (3).
-    #[tactic(auto, using(crate::proofs::Leaving::travelling_front))]
+    #[tactic(auto, using(crate::proofs::LeftFacts::travelling_front))]
     pub fn left(
         &self,
         clocks: &Grid<'_, Clock>,
@@ -410,7 +410,7 @@ fn begin_posts(posts: &mut [Post], messages: usize)
 
 // How many messages are on their way.
 fn travelling(posts: &[Post]) -> usize
-    ensures { result ≡ count_by travels posts.now }
+    ensures { result ≡ count_by is_on_its_way posts.now }
 {
-    posts.iter().filter(|post| post.travels()).count()
+    posts.iter().filter(|post| post.is_on_its_way()).count()
 }

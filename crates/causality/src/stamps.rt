@@ -1,7 +1,7 @@
 //! The stamps of marks: for each unit, how many of its marks are the mark or before it.
 ghost use Rattle.std.specs.Prelude.{◌≡◌, ◌<◌, ◌&&◌, length, if◌then◌else◌, ◌==◌, nat_le, slice_index};
 ghost use Rattle.history.specs.declared.precedence.Precedence.TheVariants.{Same, Precedes, Follows, Concurrent};
-ghost use Rattle.history.specs.Precedence.{compare_answer, compared};
+ghost use Rattle.history.specs.Precedence.{compare_answer, stamp_order};
 ghost use Rattle.history.specs.Limits.{most_units};
 ghost use Rattle.causality.specs.Comparing.{OrdersMarks};
 
@@ -36,7 +36,7 @@ fn order_of(p: Stamp<'_>, q: Stamp<'_>) -> Precedence
     requires lengths { length p.clocks.now ≡ length q.clocks.now }
     requires first { p.unit < length p.clocks.now }
     requires second { q.unit < length p.clocks.now }
-    ensures { result ≡ compared (λ w. slice_index p.entry.clocks.now w) (λ w. slice_index q.entry.clocks.now w) p.entry.unit q.entry.unit }
+    ensures { result ≡ stamp_order (λ w. slice_index p.entry.clocks.now w) (λ w. slice_index q.entry.clocks.now w) p.entry.unit q.entry.unit }
 {
     let same = p.unit == q.unit && p.clocks[p.unit] == q.clocks[p.unit];
     let precedes = p.clocks[p.unit] <= q.clocks[p.unit];

@@ -13,7 +13,7 @@ use Rattle.history.specs.declared.calls.Answer.TheVariants.{Sent, Received, Mark
 use Rattle.history.specs.Events.{at}
 use Rattle.history.specs.declared.calls.Event.TheVariants.{Mark, Receive, Send}
 use Rattle.history.specs.declared.calls.Event.{Event}
-use Rattle.history.specs.Precedence.{compared}
+use Rattle.history.specs.Precedence.{stamp_order}
 use Rattle.history.specs.Limits.{most_marks}
 use Rattle.history.specs.Runs.{call}
 use Rattle.history.specs.declared.calls.Call.{Call}
@@ -65,9 +65,9 @@ words n = record {
   join = λ f g w. f w + g w;
 }
 
--- what the event at place i of unit u was told under a measure
+-- what the event at position i of unit u was told under a measure
 abbrev pub reply_to : {V : Type 0} → Meaning V → WorkedRun → ℕ → ℕ → Option (Reply V)
-reply_to m r u i = at (run (measured_payload m r.units) (measured_size m r.units r.messages most_marks) r.calls).told u i
+reply_to m r u i = at (run (measured_payload m r.units) (measured_size m r.units r.messages most_marks) r.calls).replies u i
 
 -- Something found of a run.
 pub data Finding : Type 0 where
@@ -101,11 +101,11 @@ abbrev pub having : Word → (Word → ℕ) → ℕ
 having w f = f (reverse w)
 
 module _ (r : WorkedRun) where
-  -- what the event at place i of unit u was told under the flow count
+  -- what the event at position i of unit u was told under the flow count
   abbrev count_reply : ℕ → ℕ → Option (Reply ℕ)
   count_reply u i = reply_to (flow_count r.labels) r u i
 
-  -- the stamp of the mark at place i of unit u
+  -- the stamp of the mark at position i of unit u
   abbrev stamp_at : ℕ → ℕ → ℕ → ℕ
   stamp_at u i v = unwrap_or (option_map (λ x. x.stamp v) (count_reply u i)) 0
 
@@ -123,10 +123,10 @@ module _ (r : WorkedRun) where
   Found (words_are u i ws) =
       (option_and_then (λ x. value_in x.answer) (count_reply u i) ≡ Some (length ws))
       × AllByRecursion (λ w. option_map (having w) (option_and_then (λ x. value_in x.answer) (reply_to (words r.labels) r u i)) ≡ Some 1) ws
-  Found (order_is u i v j order) = compared (stamp_at u i) (stamp_at v j) u v ≡ order
+  Found (order_is u i v j order) = stamp_order (stamp_at u i) (stamp_at v j) u v ≡ order
   Found (refusal_is u e refusal) =
       outcome (measured_payload (flow_count r.labels) r.units) (measured_size (flow_count r.labels) r.units r.messages most_marks)
-      (run (measured_payload (flow_count r.labels) r.units) (measured_size (flow_count r.labels) r.units r.messages most_marks) r.calls).state (call u e)
+      (run (measured_payload (flow_count r.labels) r.units) (measured_size (flow_count r.labels) r.units r.messages most_marks) r.calls).contents (call u e)
       ≡ Err refusal
 
 -- a run and what is found of it

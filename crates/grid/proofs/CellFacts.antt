@@ -8,7 +8,7 @@ use Rattle.std.proofs.lemmas.Bool.{cases_lt}
 use Rattle.std.proofs.lemmas.List.Edits.{paste_more}
 use Rattle.grid.specs.declared.RowPair.{RowPair}
 use Rattle.grid.specs.Grids.{LieWithin, with_cells}
-use Rattle.grid.specs.Rows.{row, tabled}
+use Rattle.grid.specs.Rows.{row, cells_by}
 
 -- a row below h rows lies within them
 pub row_fits : (r h n : ℕ) → r < h → r * n + n ≤ h * n
@@ -63,11 +63,11 @@ module _ {X : Type 0} (rows : RowPair) (xs cells : List X) (f : ℕ → X) (j : 
       let len = length-map-range_with_len f 0 rows.width in
       ap (λ zs. set zs (rows.to * rows.width + j) v) e
       ∙ ap (set (with_cells xs rows f j) (rows.to * rows.width + j)) (is ∙ sym (get_or-map-range_with_len f 0 rows.width j j v hj (omega arith)))
-      ∙ paste_more xs (rows.to * rows.width) (tabled f rows.width) j v (omega arith) (omega arith)
+      ∙ paste_more xs (rows.to * rows.width) (cells_by f rows.width) j v (omega arith) (omega arith)
 
   -- cell j of any row is as it was
   pub column_kept : (r : ℕ) (d : X) → get_or cells (r * rows.width + j) d ≡ get_or xs (r * rows.width + j) d
   column_kept r d =
       let len = length-map-range_with_len f 0 rows.width in
       ap (λ zs. get_or zs (r * rows.width + j) d) e
-      ∙ untouched xs (tabled f rows.width) (rows.to * rows.width) j (r * rows.width + j) d (omega arith) (omega arith) (apart r rows.to rows.width j hj)
+      ∙ untouched xs (cells_by f rows.width) (rows.to * rows.width) j (r * rows.width + j) d (omega arith) (omega arith) (apart r rows.to rows.width j hj)

@@ -5,7 +5,7 @@ use Rattle.std.proofs.lemmas.List.{places, get_or-set_other}
 use Rattle.std.proofs.lemmas.List.Edits.{length-paste}
 use Rattle.std.proofs.lemmas.List.FromFn.{length-map-range_with_len, get_or-map-range_with_len}
 use Rattle.std.proofs.lemmas.Bool.{cases_lt, cases_eq, eq-eqb, ne_eqb}
-use Rattle.grid.specs.Rows.{row, with_row, tabled, RowIs}
+use Rattle.grid.specs.Rows.{row, with_row, cells_by, RowIs}
 use Rattle.grid.proofs.CellFacts.{row_fits, untouched}
 
 -- what stands where, once a row is written
@@ -40,9 +40,9 @@ module _ {X : Type 0} (n t : ℕ) (d : X) (old : List X) (inside : t * n + n ≤
     outside = λ i o. with_row_outside old ys n t i d inside long o;
   }
 
-  pub tabled_row : (g : ℕ → X) (new : List X) → new ≡ with_row old n t (tabled g n) → RowIs n t d g old new
+  pub tabled_row : (g : ℕ → X) (new : List X) → new ≡ with_row old n t (cells_by g n) → RowIs n t d g old new
   tabled_row g new e =
-      rw e (row_same (written_row (tabled g n) (omega (arith, length-map-range_with_len g 0 n))) g (λ j h. get_or-map-range_with_len g 0 n j j d h (omega arith)))
+      rw e (row_same (written_row (cells_by g n) (omega (arith, length-map-range_with_len g 0 n))) g (λ j h. get_or-map-range_with_len g 0 n j j d h (omega arith)))
 
   pub copied_row : (u : ℕ) (new : List X) → u * n + n ≤ length old → new ≡ with_row old n t (row old n u) → RowIs n t d (λ j. get_or old (u * n + j) d) old new
   copied_row u new from e =

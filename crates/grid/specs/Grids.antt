@@ -3,7 +3,7 @@ use Rattle.std.specs.Prelude.{◌≡◌, ℕ, ◌+◌, ◌*◌, ◌≤◌, Bool,
 use Rattle.std.proofs.Math.Seq.{paste}
 use Rattle.grid.specs.declared.Grid.{Grid}
 use Rattle.grid.specs.declared.RowPair.{RowPair}
-use Rattle.grid.specs.Rows.{row, with_row, row_inside, tabled}
+use Rattle.grid.specs.Rows.{row, with_row, row_inside, cells_by}
 
 module _ {T : Type 0} (g : Grid T) where
   -- whether all of row r lies within the cells of the grid
@@ -42,7 +42,7 @@ pub record LieWithin (rows : RowPair) (cells : ℕ) : Type 0 where
 
 -- xs with f 0, f 1, .. in the first k cells of the row that is written
 abbrev pub with_cells : {X : Type 0} → List X → RowPair → (ℕ → X) → ℕ → List X
-with_cells xs rows f k = paste xs (rows.to * rows.width) (tabled f rows.width) k
+with_cells xs rows f k = paste xs (rows.to * rows.width) (cells_by f rows.width) k
 
 -- The grid is as wide as before, and its cells are lent by the same lender; what they hold may have changed.
 pub record SameLoan {T : Type 0} (old new : Grid T) : Type 0 where

@@ -16,8 +16,8 @@ abbrev pub row_inside : ℕ → ℕ → ℕ → Bool
 row_inside len n r = nat_le (r * n + n) len
 
 -- the n cells f 0, f 1, ..
-abbrev pub tabled : {X : Type 0} → (ℕ → X) → ℕ → List X
-tabled f n = map f (range_with_len 0 n)
+abbrev pub cells_by : {X : Type 0} → (ℕ → X) → ℕ → List X
+cells_by f n = map f (range_with_len 0 n)
 
 -- Row t of n cells holds g 0, g 1, .., and every other cell is as it was; d is read past the end.
 pub record RowIs {X : Type 0} (n t : ℕ) (d : X) (g : ℕ → X) (old new : List X) : Type 0 where

@@ -12,15 +12,15 @@ use Rattle.history.specs.declared.calls.Event.TheVariants.{Mark, Receive, Send}
 use Rattle.history.specs.declared.calls.Event.{Event}
 use Rattle.history.specs.declared.calls.Answer.{Answer}
 use Rattle.history.specs.declared.calls.Answer.TheVariants.{Sent, Received, Marked}
-use Rattle.history.specs.Messages.{moved}
+use Rattle.history.specs.Messages.{handled_post}
 use Rattle.history.specs.Refusals.{ask}
 use Rattle.history.specs.Rows.{Payload, put, new_row, merge_row, mark_row}
 use Rattle.history.specs.declared.cells.Cell.{Cell}
-use Rattle.history.specs.Runs.{Size, silence, grown}
+use Rattle.history.specs.Runs.{Size, silence, with_entry}
 use Rattle.history.specs.declared.calls.Call.{Call}
 
 -- What a board shows: the row of each unit, the row of each message, and what became of each message.
-pub record State (V : Type 0) : Type 0 where
+pub record Contents (V : Type 0) : Type 0 where
   pub rows : ℕ → ℕ → Cell V
   pub message_rows : ℕ → ℕ → Cell V
   pub posts : ℕ → Post
@@ -29,7 +29,7 @@ pub record State (V : Type 0) : Type 0 where
 abbrev pub mark_answer : {V : Type 0} → ℕ → ℕ → V → Answer V
 mark_answer clock predecessors value = Marked (record { clock = clock; predecessors = predecessors; value = value })
 
--- an answer with another value in the place of a mark's
+-- an answer with another value in place of a mark's
 abbrev pub answer_map : {V W : Type 0} → (V → W) → Answer V → Answer W
 answer_map f (Sent clock) = Sent clock
 answer_map f (Received clock) = Received clock
@@ -42,9 +42,9 @@ pub record Reply (V : Type 0) : Type 0 where
 
 -- The state after some calls, each unit's accepted events, and the replies to these.
 pub record History (V : Type 0) : Type 0 where
-  pub state : State V
+  pub contents : Contents V
   pub log : Logs
-  pub told : ℕ → List (Reply V)
+  pub replies : ℕ → List (Reply V)
 
 -- what an accepted call leaves, or what was there
 abbrev pub if_taken : {X : Type 0} → Option Refusal → X → X → X
@@ -52,89 +52,89 @@ if_taken None new old = new
 if_taken (Some e) new old = old
 
 -- the answer, or the refusal
-abbrev pub answered : {X : Type 0} → Option Refusal → X → Result X Refusal
-answered None x = Ok x
-answered (Some e) x = Err e
+abbrev pub answer_or_refusal : {X : Type 0} → Option Refusal → X → Result X Refusal
+answer_or_refusal None x = Ok x
+answer_or_refusal (Some e) x = Err e
 
 module _ {V : Type 0} (M : Payload V) where
   -- A new board: new rows, and no message sent.
-  abbrev pub new_state : State V
-  new_state = record { rows = λ u. new_row M.start; message_rows = λ m. new_row M.start; posts = λ m. Unsent }
+  abbrev pub new_contents : Contents V
+  new_contents = record { rows = λ u. new_row M.start; message_rows = λ m. new_row M.start; posts = λ m. Unsent }
 
   -- A new board, and nothing done.
   abbrev pub new_history : History V
-  new_history = record { state = new_state; log = silence; told = silence }
+  new_history = record { contents = new_contents; log = silence; replies = silence }
 
   module _ (z : Size) where
     -- The questions of each call in their order; the first no gives the refusal.
-    abbrev pub refusal : State V → ℕ → Event → Option Refusal
-    refusal s u (Send m) = ask (nat_lt u z.units) NoSuchUnit (ask (nat_lt m z.messages) NoSuchMessage (result_err (moved (s.posts m) Sending)))
-    refusal s u (Receive m) = ask (nat_lt u z.units) NoSuchUnit (ask (nat_lt m z.messages) NoSuchMessage (result_err (moved (s.posts m) Receiving)))
+    abbrev pub refusal : Contents V → ℕ → Event → Option Refusal
+    refusal s u (Send m) = ask (nat_lt u z.units) NoSuchUnit (ask (nat_lt m z.messages) NoSuchMessage (result_err (handled_post (s.posts m) Sending)))
+    refusal s u (Receive m) = ask (nat_lt u z.units) NoSuchUnit (ask (nat_lt m z.messages) NoSuchMessage (result_err (handled_post (s.posts m) Receiving)))
     refusal s u (Mark l) = ask (nat_lt u z.units) NoSuchUnit (ask (z.fits u l) NoSuchLabel (ask (nat_lt (s.rows u u).clock z.limit) ClockFull None))
 
     -- The state after an accepted call: a send copies the unit's row to the message's, a receipt merges the message's row into
     -- the unit's, a mark rewrites the unit's row.
-    abbrev pub acted : State V → ℕ → Event → State V
-    acted s u (Send m) = record { rows = s.rows; message_rows = put s.message_rows m (s.rows u); posts = put s.posts m (result_unwrap_or (moved (s.posts m) Sending) (s.posts m)) }
-    acted s u (Receive m) = record { rows = put s.rows u (merge_row M.start (s.rows u) (s.message_rows m)); message_rows = s.message_rows; posts = put s.posts m (result_unwrap_or (moved (s.posts m) Receiving) (s.posts m)) }
-    acted s u (Mark l) = record { rows = put s.rows u (mark_row M u l (s.rows u)); message_rows = s.message_rows; posts = s.posts }
+    abbrev pub contents_after : Contents V → ℕ → Event → Contents V
+    contents_after s u (Send m) = record { rows = s.rows; message_rows = put s.message_rows m (s.rows u); posts = put s.posts m (result_unwrap_or (handled_post (s.posts m) Sending) (s.posts m)) }
+    contents_after s u (Receive m) = record { rows = put s.rows u (merge_row M.start (s.rows u) (s.message_rows m)); message_rows = s.message_rows; posts = put s.posts m (result_unwrap_or (handled_post (s.posts m) Receiving) (s.posts m)) }
+    contents_after s u (Mark l) = record { rows = put s.rows u (mark_row M u l (s.rows u)); message_rows = s.message_rows; posts = s.posts }
 
     -- The answer to an accepted call, from the unit's row before it and after it.
     abbrev pub answer_to : ℕ → Event → (ℕ → Cell V) → (ℕ → Cell V) → Answer V
-    answer_to u (Send m) before after = Sent (after u).clock
-    answer_to u (Receive m) before after = Received (after u).clock
-    answer_to u (Mark l) before after = mark_answer (after u).clock (those (λ j. (before j).flag) z.units) (after u).value
+    answer_to u (Send m) before history_after = Sent (history_after u).clock
+    answer_to u (Receive m) before history_after = Received (history_after u).clock
+    answer_to u (Mark l) before history_after = mark_answer (history_after u).clock (those (λ j. (before j).flag) z.units) (history_after u).value
 
     -- the reply to an accepted call
     abbrev pub reply : ℕ → Event → (ℕ → Cell V) → (ℕ → Cell V) → Reply V
-    reply u e before after = record { answer = answer_to u e before after; stamp = λ v. (after v).clock }
+    reply u e before history_after = record { answer = answer_to u e before history_after; stamp = λ v. (history_after v).clock }
 
     -- The state after a call, taken or refused: a refused call changes nothing.
-    abbrev pub next : State V → Call → State V
-    next s c = if_taken (refusal s c.unit c.event) (acted s c.unit c.event) s
+    abbrev pub next_contents : Contents V → Call → Contents V
+    next_contents s c = if_taken (refusal s c.unit c.event) (contents_after s c.unit c.event) s
 
     -- The answer to a call, or its refusal.
-    abbrev pub outcome : State V → Call → Result (Answer V) Refusal
-    outcome s c = answered (refusal s c.unit c.event) (answer_to c.unit c.event (s.rows c.unit) ((acted s c.unit c.event).rows c.unit))
+    abbrev pub outcome : Contents V → Call → Result (Answer V) Refusal
+    outcome s c = answer_or_refusal (refusal s c.unit c.event) (answer_to c.unit c.event (s.rows c.unit) ((contents_after s c.unit c.event).rows c.unit))
 
     -- What each call of a list is answered, or why it is refused, from a state on.
-    abbrev pub outcomes_from : State V → List Call → List (Result (Answer V) Refusal)
+    abbrev pub outcomes_from : Contents V → List Call → List (Result (Answer V) Refusal)
     outcomes_from s [] = []
-    outcomes_from s (c ∷ cs) = outcome s c ∷ outcomes_from (next s c) cs
+    outcomes_from s (c ∷ cs) = outcome s c ∷ outcomes_from (next_contents s c) cs
 
     -- the state after a list of calls, taken or refused, from a state on
-    abbrev pub state_from : State V → List Call → State V
-    state_from s [] = s
-    state_from s (c ∷ cs) = state_from (next s c) cs
+    abbrev pub contents_from : Contents V → List Call → Contents V
+    contents_from s [] = s
+    contents_from s (c ∷ cs) = contents_from (next_contents s c) cs
 
     -- the outcomes of a list of calls handed to a new board
     abbrev pub outcomes : List Call → List (Result (Answer V) Refusal)
-    outcomes cs = outcomes_from new_state cs
+    outcomes cs = outcomes_from new_contents cs
 
     -- the history after one more call
-    abbrev pub after : History V → Call → History V
-    after h c = record {
-      state = next h.state c;
-      log = if_taken (refusal h.state c.unit c.event) (grown h.log c.unit c.event) h.log;
-      told = if_taken (refusal h.state c.unit c.event)
-          (grown h.told c.unit (reply c.unit c.event (h.state.rows c.unit) ((acted h.state c.unit c.event).rows c.unit)))
-          h.told;
+    abbrev pub history_after : History V → Call → History V
+    history_after h c = record {
+      contents = next_contents h.contents c;
+      log = if_taken (refusal h.contents c.unit c.event) (with_entry h.log c.unit c.event) h.log;
+      replies = if_taken (refusal h.contents c.unit c.event)
+          (with_entry h.replies c.unit (reply c.unit c.event (h.contents.rows c.unit) ((contents_after h.contents c.unit c.event).rows c.unit)))
+          h.replies;
     }
 
     -- the history after a list of calls more
     abbrev pub run_from : History V → List Call → History V
     run_from h [] = h
-    run_from h (c ∷ cs) = run_from (after h c) cs
+    run_from h (c ∷ cs) = run_from (history_after h c) cs
 
     -- A run of a list of calls, in the order handed in, from a new board.
     abbrev pub run : List Call → History V
     run cs = run_from new_history cs
 
     -- the calls of a list that are accepted after a history
-    abbrev pub accepted_from : History V → List Call → List Call
-    accepted_from h [] = []
-    accepted_from h (c ∷ cs) = if_taken (refusal h.state c.unit c.event) (c ∷ accepted_from (after h c) cs) (accepted_from (after h c) cs)
+    abbrev pub accepted_calls_from : History V → List Call → List Call
+    accepted_calls_from h [] = []
+    accepted_calls_from h (c ∷ cs) = if_taken (refusal h.contents c.unit c.event) (c ∷ accepted_calls_from (history_after h c) cs) (accepted_calls_from (history_after h c) cs)
 
     -- the calls of a list that are accepted
-    abbrev pub accepted : List Call → List Call
-    accepted cs = accepted_from new_history cs
+    abbrev pub accepted_calls : List Call → List Call
+    accepted_calls cs = accepted_calls_from new_history cs

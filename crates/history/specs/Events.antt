@@ -8,19 +8,19 @@ use Rattle.history.specs.declared.calls.Event.TheVariants.{Send, Receive}
 abbrev pub Logs : Type 0
 Logs = ℕ → List Event
 
--- Which event stands at which place: a unit, and the number of its events that are older.
+-- Which event stands at which position: a unit, and the number of its events that are older.
 abbrev pub Events : Type 0
 Events = ℕ → ℕ → Option Event
 
--- A place of the logs: a unit, and the number of its events that are older.
-abbrev pub Place : Type 0
-Place = ℕ × ℕ
+-- A position in the logs: a unit, and the number of its events that are older.
+abbrev pub Position : Type 0
+Position = ℕ × ℕ
 
--- what stands at place i of unit u
+-- what stands at position i of unit u
 abbrev pub at : {A : Type 0} → (ℕ → List A) → ℕ → ℕ → Option A
 at logs u i = slice_get (logs u) i
 
--- an event stands at place i of unit u
+-- an event stands at position i of unit u
 abbrev pub Stands : Events → ℕ → ℕ → Type 0
 Stands ev u i = (e : Event) × (ev u i ≡ Some e)
 

@@ -4,7 +4,7 @@ use Rattle.history.specs.Events.{Events}
 use Rattle.history.specs.declared.calls.Event.TheVariants.{Mark, Receive, Send}
 use Rattle.history.specs.declared.calls.Event.{Event}
 
--- a mark stands at place i of unit u
+-- a mark stands at position i of unit u
 abbrev pub IsMark : Events → ℕ → ℕ → Type 0
 IsMark ev u i = (l : ℕ) × (ev u i ≡ Some (Mark l))
 

@@ -9,29 +9,29 @@ use Rattle.history.specs.declared.refusals.Refusal.TheVariants.{SentBefore, Neve
 use Rattle.history.specs.Events.{Events, IsSent, IsReceived}
 
 -- The number of each state of a message.
-abbrev pub code : Post → ℕ
-code Unsent = 0
-code OnItsWay = 1
-code Delivered = 2
+abbrev pub post_number : Post → ℕ
+post_number Unsent = 0
+post_number OnItsWay = 1
+post_number Delivered = 2
 
 -- what a message is before anything is sent
 abbrev pub unsent : Post
 unsent = Unsent
 
 -- What a send or a receipt makes of a message, or why it is refused.
-abbrev pub moved : Post → Handling → Result Post Refusal
-moved Unsent Sending = Ok OnItsWay
-moved OnItsWay Sending = Err SentBefore
-moved Delivered Sending = Err SentBefore
-moved Unsent Receiving = Err NeverSent
-moved OnItsWay Receiving = Ok Delivered
-moved Delivered Receiving = Err ReceivedBefore
+abbrev pub handled_post : Post → Handling → Result Post Refusal
+handled_post Unsent Sending = Ok OnItsWay
+handled_post OnItsWay Sending = Err SentBefore
+handled_post Delivered Sending = Err SentBefore
+handled_post Unsent Receiving = Err NeverSent
+handled_post OnItsWay Receiving = Ok Delivered
+handled_post Delivered Receiving = Err ReceivedBefore
 
 -- Whether a message in this state is on its way: it was sent, and not received.
-abbrev pub travels : Post → Bool
-travels Unsent = false
-travels OnItsWay = true
-travels Delivered = false
+abbrev pub is_on_its_way : Post → Bool
+is_on_its_way Unsent = false
+is_on_its_way OnItsWay = true
+is_on_its_way Delivered = false
 
 -- The state of message m is what the events say.
 abbrev pub Stated : Events → ℕ → Post → Type 0

@@ -7,17 +7,17 @@ use Rattle.history.specs.declared.refusals.Refusal.TheVariants.{NoSuchUnit, Stam
 use Rattle.history.specs.Events.{Events}
 use Rattle.history.specs.HappenedBefore.{Before, Here}
 use Rattle.history.specs.Refusals.{ask}
-use Rattle.history.specs.Board.{answered}
+use Rattle.history.specs.Board.{answer_or_refusal}
 use Rattle.history.specs.Limits.{most_units}
 
 -- The number of each answer.
-abbrev pub rank : Precedence → ℕ
-rank Same = 0
-rank Precedes = 1
-rank Follows = 2
-rank Concurrent = 3
+abbrev pub precedence_number : Precedence → ℕ
+precedence_number Same = 0
+precedence_number Precedes = 1
+precedence_number Follows = 2
+precedence_number Concurrent = 3
 
--- What each answer says of the marks at place i of unit u and at place j of unit v.
+-- What each answer says of the marks at position i of unit u and at position j of unit v.
 abbrev pub Ordered : Events → ℕ → ℕ → ℕ → ℕ → Precedence → Type 0
 Ordered ev u i v j Same = Here u i v j
 Ordered ev u i v j Precedes = Before ev u i v j
@@ -25,8 +25,8 @@ Ordered ev u i v j Follows = Before ev v j u i
 Ordered ev u i v j Concurrent = (Here u i v j → ⊥) × (Before ev u i v j → ⊥) × (Before ev v j u i → ⊥)
 
 -- The answer for the stamps p and q of marks of the units u and v.
-abbrev pub compared : (ℕ → ℕ) → (ℕ → ℕ) → ℕ → ℕ → Precedence
-compared p q u v =
+abbrev pub stamp_order : (ℕ → ℕ) → (ℕ → ℕ) → ℕ → ℕ → Precedence
+stamp_order p q u v =
     if u == v && p u == q u then Same else (if nat_le (p u) (q u) then Precedes else (if nat_le (q v) (p v) then Follows else Concurrent))
 
 -- Are the stamps equally long, from 1 to the most units that a board has? Are both units below that length?
@@ -36,4 +36,4 @@ compare_refusal p q u v =
 
 -- The answer of a comparison, or why it is refused.
 abbrev pub compare_answer : List ℕ → List ℕ → ℕ → ℕ → Result Precedence Refusal
-compare_answer p q u v = answered (compare_refusal p q u v) (compared (λ w. slice_index p w) (λ w. slice_index q w) u v)
+compare_answer p q u v = answer_or_refusal (compare_refusal p q u v) (stamp_order (λ w. slice_index p w) (λ w. slice_index q w) u v)

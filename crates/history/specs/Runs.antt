@@ -28,8 +28,8 @@ abbrev pub silence : {A : Type 0} → ℕ → List A
 silence u = []
 
 -- the logs with one more entry of unit u
-abbrev pub grown : {A : Type 0} → (ℕ → List A) → ℕ → A → ℕ → List A
-grown logs u x = put logs u (logs u ++ x ∷ [])
+abbrev pub with_entry : {A : Type 0} → (ℕ → List A) → ℕ → A → ℕ → List A
+with_entry logs u x = put logs u (logs u ++ x ∷ [])
 
 -- What can come next in a run that has come to these logs: a send of a message not yet sent, a receipt of one on its way, a mark
 -- within the limits.
@@ -41,7 +41,7 @@ Possible z logs u (Mark l) = (u < z.units) × (z.fits u l ≡ true) × (marks (a
 -- each call is possible after those before it
 abbrev pub Continues : Size → Logs → List Call → Type 0
 Continues z logs [] = Unit {0}
-Continues z logs (c ∷ cs) = Possible z logs c.unit c.event × Continues z (grown logs c.unit c.event) cs
+Continues z logs (c ∷ cs) = Possible z logs c.unit c.event × Continues z (with_entry logs c.unit c.event) cs
 
 -- The calls are a run: each is possible after those before it.
 abbrev pub Run : Size → List Call → Type 0

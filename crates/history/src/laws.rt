@@ -1,5 +1,5 @@
 // The law over runs. The function is there for the theorems that its contract states, and does nothing.
-ghost use Rattle.history.specs.Laws.{MarksAnswered, MessagesAnswered, OutcomesTold, RunsOrderFree, AcceptedAreRuns, StampsDecide, PayloadFree};
+ghost use Rattle.history.specs.Laws.{MarksAnswered, MessagesAnswered, RepliesAreAnswers, RunsOrderFree, AcceptedAreRuns, StampsDecide, PayloadFree};
 
 // For every size and every list of calls handed to a new board, whatever cells carry beside clock and flag (V, W):
 // - marks: each accepted mark was told its own number and the units of its immediate predecessors, and its unit's clocks are its stamp;
@@ -12,7 +12,7 @@ ghost use Rattle.history.specs.Laws.{MarksAnswered, MessagesAnswered, OutcomesTo
 pub fn law_of_runs<V, W>()
     ensures marks { MarksAnswered V }
     ensures messages { MessagesAnswered V }
-    ensures outcomes { OutcomesTold V }
+    ensures outcomes { RepliesAreAnswers V }
     ensures order { RunsOrderFree V }
     ensures accepted { AcceptedAreRuns V }
     ensures stamps { StampsDecide }

@@ -1,6 +1,6 @@
 // What becomes of a message.
 ghost use Rattle.std.specs.Prelude.{◌≡◌};
-ghost use Rattle.history.specs.Messages.{code, moved, travels};
+ghost use Rattle.history.specs.Messages.{post_number, handled_post, is_on_its_way};
 
 use super::refusals::Refusal;
 
@@ -17,7 +17,7 @@ pub enum Post {
 
 // The number of a state.
 impl From<Post> for u8 {
-    ghost from_gives = { λ post n. n ≡ code post };
+    ghost from_gives = { λ post n. n ≡ post_number post };
 
     fn from(post: Post) -> u8 {
         post as u8
@@ -38,7 +38,7 @@ impl Post {
     /// What a send or a receipt makes of the message. Refuses a second send (7), the receipt of a message never sent (8) and a second
     /// receipt (9).
     pub fn handled(self, handling: Handling) -> Result<Post, Refusal>
-        ensures { result ≡ moved self handling }
+        ensures { result ≡ handled_post self handling }
     {
         match (self, handling) {
             (Post::Unsent, Handling::Sending) => Ok(Post::OnItsWay),
@@ -50,8 +50,8 @@ impl Post {
     }
 
     /// Whether the message is on its way: sent, and not yet received.
-    pub fn travels(self) -> bool
-        ensures { result ≡ travels self }
+    pub fn is_on_its_way(self) -> bool
+        ensures { result ≡ is_on_its_way self }
     {
         matches!(self, Post::OnItsWay)
     }

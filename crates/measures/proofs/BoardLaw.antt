@@ -11,7 +11,7 @@ use Rattle.std.proofs.lemmas.List.{get_or_past, places, take_more, take_more_set
 use Rattle.std.proofs.lemmas.Grind.{common_steps}
 use Rattle.std.proofs.lemmas.Option.{slice_get-map}
 use Rattle.history.specs.declared.messages.Post.{Post}
-use Rattle.history.specs.Messages.{unsent, travels}
+use Rattle.history.specs.Messages.{unsent, is_on_its_way}
 use Rattle.history.specs.declared.refusals.Refusal.{Refusal}
 use Rattle.history.specs.declared.refusals.Refusal.TheVariants.{MemoryTooShort}
 use Rattle.grid.specs.Rows.{row}
@@ -19,17 +19,17 @@ use Rattle.history.specs.Counting.{HowMany}
 use Rattle.history.specs.Events.{Events}
 use Rattle.history.specs.declared.calls.Event.{Event}
 use Rattle.history.specs.declared.calls.Event.TheVariants.{Mark}
-use Rattle.history.specs.HappenedBefore.{UpTo}
+use Rattle.history.specs.HappenedBefore.{AtOrBefore}
 use Rattle.history.specs.Stamps.{Stamp}
 use Rattle.history.specs.Marks.{IsMark}
 use Rattle.history.specs.Rows.{Payload}
 use Rattle.history.specs.declared.cells.Cell.{Cell}
 use Rattle.history.specs.Runs.{Size, Ranged}
 use Rattle.history.specs.declared.calls.Call.{Call}
-use Rattle.history.specs.Board.{State, Reply, new_history, mark_answer, outcomes, run}
+use Rattle.history.specs.Board.{Contents, Reply, new_history, mark_answer, outcomes, run}
 use Rattle.history.specs.declared.calls.Answer.{Answer}
 use Rattle.history.specs.Laws.{SameHistory, OrderFree, MessageAnswered, answers_of}
-use Rattle.history.proofs.Promises.{accepts_runs, messages_answered, outcomes_told, order_free, marks_ranged, last_stamp, exactly_none}
+use Rattle.history.proofs.Promises.{accepts_runs, messages_answered, replies_are_answers, order_free, marks_ranged, last_stamp, exactly_none}
 use Rattle.history.specs.Limits.{most_marks}
 use Rattle.causality.specs.Boards.{Memory, Holds, Shows, Follows, Makes, state_answer, left_answer, Obeys, has_room, setup}
 use Rattle.causality.proofs.Promises.{each_shows, count_below_same}
@@ -37,24 +37,24 @@ use Rattle.measures.specs.Words.{Word}
 use Rattle.measures.specs.Measures.{Meaning, Lawful}
 use Rattle.measures.specs.Worths.{measured_payload, measured_size, measured_rules}
 use Rattle.measures.specs.Laws.{accepted_events, Valued, TellsOfFlows, AtMarks, MarksJudged}
-use Rattle.measures.specs.Boards.{StandAlike, taken, Played, MarkAnswered, Agree, AtAnswers, MarksGood, LawOfBoards}
-use Rattle.measures.proofs.Judging.{marks_judged}
-use Rattle.measures.proofs.Replaying.{state_push, outcomes_push, last_outcome, accepted_taken}
-use Rattle.measures.proofs.Valuing.{valued}
+use Rattle.measures.specs.Boards.{StandAlike, taken_calls, Played, MarkAnswered, Agree, AtAnswers, MarksGood, LawOfBoards}
+use Rattle.measures.proofs.JudgeFacts.{marks_judged}
+use Rattle.measures.proofs.ReplayFacts.{state_push, outcomes_push, last_outcome, accepted_taken}
+use Rattle.measures.proofs.ValueFacts.{valued}
 
 -- What an accepted call was told is what it was answered.
-reply_told : {V : Type 0} (M : Payload V) (z : Size) (cs : List Call) (u i : ℕ) (r : Reply V) → slice_get ((run M z cs).told u) i ≡ Some r
+reply_answered : {V : Type 0} (M : Payload V) (z : Size) (cs : List Call) (u i : ℕ) (r : Reply V) → slice_get ((run M z cs).replies u) i ≡ Some r
     → slice_get (answers_of u cs (outcomes M z cs)) i ≡ Some r.answer
-reply_told {V} M z cs u i r e =
-    ap (λ (l : List (Answer V)). slice_get l i) (sym (outcomes_told V M z cs u))
-    ∙ slice_get-map (λ (x : Reply V). x.answer) ((run M z cs).told u) i
+reply_answered {V} M z cs u i r e =
+    ap (λ (l : List (Answer V)). slice_get l i) (sym (replies_are_answers V M z cs u))
+    ∙ slice_get-map (λ (x : Reply V). x.answer) ((run M z cs).replies u) i
     ∙ ap (option_map (λ (x : Reply V). x.answer)) e
 
 -- A row of a board of n units and k messages is a unit's or a message's.
 row_cases : (n k r : ℕ) → r < n + k → (r < n) ⊎ ((p : ℕ) × (p < k) × (r ≡ n + p))
 row_cases n k r h = ⊎_elim inl (λ (l : n ≤ r). inr (r - n, omega arith, omega arith)) (cases_lt r n)
 
-module _ {V : Type 0} (n k : ℕ) (s t : State V) (rows : (u j : ℕ) → s.rows u j ≡ t.rows u j) (message_rows : (p j : ℕ) → s.message_rows p j ≡ t.message_rows p j) where
+module _ {V : Type 0} (n k : ℕ) (s t : Contents V) (rows : (u j : ℕ) → s.rows u j ≡ t.rows u j) (message_rows : (p j : ℕ) → s.message_rows p j ≡ t.message_rows p j) where
   -- Grids that hold one part of states with the same rows hold the same in each row.
   same_grid : {X : Type 0} (part : Cell V → X) (other : X) (xs ys : List X) → Holds part other n k xs s → Holds part other n k ys t
       → (r j : ℕ) → r < n + k → j < n → slice_index_or xs (r * n + j) other ≡ slice_index_or ys (r * n + j) other
@@ -82,7 +82,7 @@ module _ {V : Type 0} (start : V) (n k : ℕ) (a b : Memory V) (alike : StandAli
 
   -- So is the question for the number of messages on their way.
   same_left : left_answer k true a.posts ≡ left_answer k true b.posts
-  same_left = ap (λ (t : ℕ). Ok t) (count_below_same (λ p. travels (slice_index_or a.posts p unsent)) (λ p. travels (slice_index_or b.posts p unsent)) k (λ p h. ap travels (alike.posts p h)))
+  same_left = ap (λ (t : ℕ). Ok t) (count_below_same (λ p. is_on_its_way (slice_index_or a.posts p unsent)) (λ p. is_on_its_way (slice_index_or b.posts p unsent)) k (λ p h. ap is_on_its_way (alike.posts p h)))
 
 module _ {V : Type 0} (m : Meaning V) (n k : ℕ) where
   -- what the cells of such a board carry, and its size
@@ -94,27 +94,27 @@ module _ {V : Type 0} (m : Meaning V) (n k : ℕ) where
 
   -- a board just made was handed no call
   played_made : (old new : Memory V) → Makes M n k None old new → Played m n k [] [] new
-  played_made old new h = record { answers_are = refl; shows = h.state refl }
+  played_made old new h = record { answers_are = refl; shows = h.contents refl }
 
   -- a call that follows the rules is one more
   played_called : (cs : List Call) (xs : List (Result (Answer V) Refusal)) (old new : Memory V) (c : Call) (x : Result (Answer V) Refusal)
       → Played m n k cs xs old → Obeys (setup (measured_rules m) n k) c old new x → has_room n k old ≡ true → Played m n k (cs ++ c ∷ []) (xs ++ x ∷ []) new
   played_called cs xs old new c x p o there =
-      let s = (run M z cs).state in
+      let s = (run M z cs).contents in
       let f = subst (λ (b : Bool). Follows M z c b old new x) there o.follows in
       record {
         answers_are = ap₂ (λ (l : List (Result (Answer V) Refusal)) (y : Result (Answer V) Refusal). l ++ y ∷ []) p.answers_are (f.answer s p.shows)
             ∙ sym (outcomes_push M z cs c);
-        shows = subst (Shows m.start n k new) (sym (state_push M z cs c)) (f.state s p.shows);
+        shows = subst (Shows m.start n k new) (sym (state_push M z cs c)) (f.contents s p.shows);
       }
 
   -- A call whose memory is too short is refused, and the board stands as it did.
   played_short : (cs : List Call) (xs : List (Result (Answer V) Refusal)) (old new : Memory V) (c : Call) (x : Result (Answer V) Refusal)
       → Played m n k cs xs old → Obeys (setup (measured_rules m) n k) c old new x → has_room n k old ≡ false → (x ≡ Err MemoryTooShort) × Played m n k cs xs new
   played_short cs xs old new c x p o short =
-      let s = (run M z cs).state in
+      let s = (run M z cs).contents in
       let f = subst (λ (b : Bool). Follows M z c b old new x) short o.follows in
-      (f.answer s p.shows, record { answers_are = p.answers_are; shows = f.state s p.shows })
+      (f.answer s p.shows, record { answers_are = p.answers_are; shows = f.contents s p.shows })
 
   -- One call more of two lists that a loop goes over.
   pub played_more : (ds : List Call) (ys : List (Result (Answer V) Refusal)) (i : ℕ) (d : Call) (y : Result (Answer V) Refusal)
@@ -127,7 +127,7 @@ module _ {V : Type 0} (m : Meaning V) (n k : ℕ) where
   played_alike : (cs ds : List Call) (xs ys : List (Result (Answer V) Refusal)) (a b : Memory V) → Played m n k cs xs a → Played m n k ds ys b
       → SameHistory (run M z cs) (run M z ds) → StandAlike m.start n k a b
   played_alike cs ds xs ys a b p q h =
-      stand_alike n k (run M z cs).state (run M z ds).state h.rows h.message_rows m.start a b h.posts p.shows q.shows
+      stand_alike n k (run M z cs).contents (run M z ds).contents h.rows h.message_rows m.start a b h.posts p.shows q.shows
 
   -- The same accepted calls unit by unit: the same answers, and boards that stand alike.
   played_agree : (cs ds : List Call) (xs ys : List (Result (Answer V) Refusal)) (a b : Memory V) → Played m n k cs xs a → Played m n k ds ys b
@@ -151,7 +151,7 @@ module _ {V : Type 0} (m : Meaning V) (n k : ℕ) where
   mark_answered cs xs memory p u i v = record {
     valued = v;
     answer = ap (λ (l : List (Result (Answer V) Refusal)). slice_get (answers_of u cs l) i) p.answers_are
-        ∙ reply_told M z cs u i (record { answer = mark_answer v.answered.clock v.answered.predecessors v.answered.value; stamp = v.answered.stamp }) v.answered.told;
+        ∙ reply_answered M z cs u i (record { answer = mark_answer v.answered.clock v.answered.predecessors v.answered.value; stamp = v.answered.stamp }) v.answered.reply_is;
   }
 
   -- What a send or a receipt was told is what it was answered.
@@ -160,7 +160,7 @@ module _ {V : Type 0} (m : Meaning V) (n k : ℕ) where
       → (a : Answer V) × (slice_get (answers_of u cs xs) i ≡ Some a) × MessageAnswered (accepted_events m n k most_marks cs) u i e a
   message_answered cs xs memory q u i e p =
       let (r, told, is) = messages_answered V M z cs u i e p in
-      (r.answer, ap (λ (l : List (Result (Answer V) Refusal)). slice_get (answers_of u cs l) i) q.answers_are ∙ reply_told M z cs u i r told, is)
+      (r.answer, ap (λ (l : List (Result (Answer V) Refusal)). slice_get (answers_of u cs l) i) q.answers_are ∙ reply_answered M z cs u i r told, is)
 
 -- The stamp of a mark has no marks of units that the board does not have.
 no_marks : (ev : Events) (z : Size) → Ranged ev z → (v : ℕ) → z.units ≤ v → (P : ℕ → Type 0) → HowMany (λ j. IsMark ev v j × P j) 0
@@ -173,7 +173,7 @@ module _ {V : Type 0} (m : Meaning V) (n k : ℕ) (cs : List Call) (xs : List (R
   ranged = marks_ranged (measured_payload m n) (measured_size m n k most_marks) cs
 
   -- what a row that is read from the memory has for unit v
-  in_row : (v : ℕ) → v < n → slice_index (row memory.clocks.cells.now n u) v ≡ ((run (measured_payload m n) (measured_size m n k most_marks) cs).state.rows u v).clock
+  in_row : (v : ℕ) → v < n → slice_index (row memory.clocks.cells.now n u) v ≡ ((run (measured_payload m n) (measured_size m n k most_marks) cs).contents.rows u v).clock
   in_row v h = read ∙ p.shows.clocks.rows u v (ranged.unit u i l e) h
     where
       read : get_or (row memory.clocks.cells.now n u) v 0 ≡ get_or memory.clocks.cells.now (u * n + v) 0
@@ -185,7 +185,7 @@ module _ {V : Type 0} (m : Meaning V) (n k : ℕ) (cs : List Call) (xs : List (R
   board_stamp : Stamp (accepted_events m n k most_marks cs) u i (λ v. slice_index (row memory.clocks.cells.now n u) v)
   board_stamp v = elim (cases_lt v n) [
     | inl h ↦ rw (in_row v h) (last_stamp (measured_payload m n) (measured_size m n k most_marks) cs u i l e last v)
-    | inr h ↦ rw (past_row v h) (no_marks (accepted_events m n k most_marks cs) (measured_size m n k most_marks) ranged v h (λ j. UpTo (accepted_events m n k most_marks cs) v j u i))
+    | inr h ↦ rw (past_row v h) (no_marks (accepted_events m n k most_marks cs) (measured_size m n k most_marks) ranged v h (λ j. AtOrBefore (accepted_events m n k most_marks cs) v j u i))
   ]
 
 -- What is true of the value told at each mark of every run is true of the value answered.
@@ -204,7 +204,7 @@ law_of_boards m admits laws = record {
   made = λ n k old new h. played_made m n k old new h;
   called = λ n k cs xs old new c x p o r. played_called m n k cs xs old new c x p o r;
   short = λ n k cs xs old new c x p o r. played_short m n k cs xs old new c x p o r;
-  accepted_are = λ n k cs xs memory p. accepted_taken (measured_payload m n) (measured_size m n k most_marks) (new_history (measured_payload m n)) cs ∙ ap (taken cs) (sym p.answers_are);
+  accepted_are = λ n k cs xs memory p. accepted_taken (measured_payload m n) (measured_size m n k most_marks) (new_history (measured_payload m n)) cs ∙ ap (taken_calls cs) (sym p.answers_are);
   accepts = λ n k cs. accepts_runs (measured_payload m n) (measured_size m n k most_marks) cs;
   marks_answered = λ n k cs xs memory p u i l e. mark_answered m n k cs xs memory p u i (valued m admits laws n k most_marks cs u i l e);
   stamped = λ n k cs xs memory p u i l e last. board_stamp m n k cs xs memory p u i l e last;

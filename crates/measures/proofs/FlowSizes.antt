@@ -3,42 +3,42 @@ use Rattle.std.proofs.Common.{◌≡◌, ℕ, ◌+◌, ◌^◌, ◌<◌, ◌≤�
 use Rattle.std.proofs.lemmas.Bool.{lt-ltb, cases_lt}
 use Rattle.std.proofs.lemmas.List.{length-map}
 use Rattle.history.specs.Counting.{Among, Exactly}
-use Rattle.history.specs.Events.{Events, Place}
+use Rattle.history.specs.Events.{Events, Position}
 use Rattle.history.specs.Flows.{Longest, letter_at, word}
 use Rattle.measures.specs.declared.spans.Lengths.{Lengths}
 use Rattle.measures.specs.Words.{Word}
-use Rattle.measures.specs.Measures.{Spelled, carried_from, carried, joined}
+use Rattle.measures.specs.Measures.{Spelled, word_value_from, word_value, join_of}
 use Rattle.measures.specs.Counts.{flow_count, flow_count_lawful, Counted, MarksCounted}
 use Rattle.measures.specs.Laws.{join_over, accepted_events, AtMarks}
 use Rattle.measures.specs.Spans.{lengths, longer, span, span_lawful, Spanned, MarksSpanned}
 use Rattle.measures.proofs.BoardLaw.{at_answers}
-use Rattle.measures.proofs.Judging.{flow_spelled}
-use Rattle.measures.proofs.Valuing.{ranged, valued}
+use Rattle.measures.proofs.JudgeFacts.{flow_spelled}
+use Rattle.measures.proofs.ValueFacts.{ranged, valued}
 
 -- along every word the count is 1
-count_carried : (labels v : ℕ) (w : Word) → carried_from (flow_count labels) v w ≡ v
+count_carried : (labels v : ℕ) (w : Word) → word_value_from (flow_count labels) v w ≡ v
 count_carried labels v [] = refl
 count_carried labels v (l ∷ w) = count_carried labels v w
 
 -- a count joined with those of more flows
-count_joined : (labels : ℕ) {A : Type 0} (c : A → ℕ) → ((a : A) → c a ≡ 1) → (v : ℕ) (fs : List A) → v ≤ 4294967295 → joined (flow_count labels) v (map c fs) ≡ min (v + length fs) 4294967295
+count_joined : (labels : ℕ) {A : Type 0} (c : A → ℕ) → ((a : A) → c a ≡ 1) → (v : ℕ) (fs : List A) → v ≤ 4294967295 → join_of (flow_count labels) v (map c fs) ≡ min (v + length fs) 4294967295
 count_joined labels c one v [] h = omega arith
 count_joined labels c one v (f ∷ fs) h = count_joined labels c one (min (v + c f) 4294967295) fs (omega arith) ∙ (let e = one f in omega arith)
 
-counted_told : (labels : ℕ) → (0 < labels) × (labels ≤ 64) → AtMarks (flow_count labels) Counted
-counted_told labels in_range n k limit cs u i l e =
+flows_counted : (labels : ℕ) → (0 < labels) × (labels ≤ 64) → AtMarks (flow_count labels) Counted
+flows_counted labels in_range n k limit cs u i l e =
     let m = flow_count labels in
     let v = valued m (λ v. v < 2 ^ 32) (flow_count_lawful labels in_range) n k limit cs u i l e in
     let ev = accepted_events m n k limit cs in
     let one = count_carried labels 1 (word ev v.flow) in
     let is : v.answered.value ≡ min (length (v.flow ∷ v.flows)) 4294967295 =
     v.value_is
-    ∙ count_joined labels (λ f. carried m (word ev f)) (λ f. count_carried labels 1 (word ev f)) (carried m (word ev v.flow)) v.flows (omega arith)
+    ∙ count_joined labels (λ f. word_value m (word ev f)) (λ f. count_carried labels 1 (word ev f)) (word_value m (word ev v.flow)) v.flows (omega arith)
     ∙ omega arith in
     (v, (length (v.flow ∷ v.flows), (v.flow ∷ v.flows, v.all, refl), is))
 
 pub marks_counted : (labels : ℕ) → (0 < labels) × (labels ≤ 64) → MarksCounted (flow_count labels)
-marks_counted labels in_range = at_answers (flow_count labels) Counted (counted_told labels in_range)
+marks_counted labels in_range = at_answers (flow_count labels) Counted (flows_counted labels in_range)
 
 -- r has the least shortest and the greatest longest number of v and of what c makes of the list
 record Extremes {A : Type 0} (c : A → Lengths) (v : Lengths) (fs : List A) (r : Lengths) : Type 0 where
@@ -56,7 +56,7 @@ max_either : (a b : ℕ) → (max a b ≡ a) ⊎ (max a b ≡ b)
 max_either a b = elim (cases_lt a b) [ inl h ↦ inr (omega arith) | inr h ↦ inl (omega arith) ]
 
 module _ (labels : ℕ) where
-  span_joined : {A : Type 0} (c : A → Lengths) (v : Lengths) (fs : List A) → Extremes c v fs (joined (span labels) v (map c fs))
+  span_joined : {A : Type 0} (c : A → Lengths) (v : Lengths) (fs : List A) → Extremes c v fs (join_of (span labels) v (map c fs))
   span_joined c v [] = record {
     low_first = omega arith;
     low_rest = λ f i. absurd i;
@@ -72,13 +72,13 @@ module _ (labels : ℕ) where
       let high = x.high_first in
       record {
         low_first = omega arith;
-        low_rest = λ g. ⊎_elim (λ e. subst (λ (a : _). (joined (span labels) both (map c fs)).shortest ≤ (c a).shortest) (sym e) (omega arith)) (x.low_rest g);
+        low_rest = λ g. ⊎_elim (λ e. subst (λ (a : _). (join_of (span labels) both (map c fs)).shortest ≤ (c a).shortest) (sym e) (omega arith)) (x.low_rest g);
         low_from = ⊎_elim
             (λ e. ⊎_elim (λ y. inl (e ∙ y)) (λ y. inr (f, inl refl, e ∙ y)) (min_either v.shortest (c f).shortest))
             (λ p. inr (p.0, inr p.1, p.2))
             x.low_from;
         high_first = omega arith;
-        high_rest = λ g. ⊎_elim (λ e. subst (λ (a : _). (c a).longest ≤ (joined (span labels) both (map c fs)).longest) (sym e) (omega arith)) (x.high_rest g);
+        high_rest = λ g. ⊎_elim (λ e. subst (λ (a : _). (c a).longest ≤ (join_of (span labels) both (map c fs)).longest) (sym e) (omega arith)) (x.high_rest g);
         high_from = ⊎_elim
             (λ e. ⊎_elim (λ y. inl (e ∙ y)) (λ y. inr (f, inl refl, e ∙ y)) (max_either v.longest (c f).longest))
             (λ p. inr (p.0, inr p.1, p.2))
@@ -86,46 +86,46 @@ module _ (labels : ℕ) where
       }
 
   -- along a word of labels each end grows by the number of the word's labels
-  span_carried : (a b : ℕ) (w : Word) → a ≤ 65535 → b ≤ 65535 → Spelled (span labels) w → carried_from (span labels) (lengths a b) w ≡ lengths (min (a + length w) 65535) (min (b + length w) 65535)
+  span_carried : (a b : ℕ) (w : Word) → a ≤ 65535 → b ≤ 65535 → Spelled (span labels) w → word_value_from (span labels) (lengths a b) w ≡ lengths (min (a + length w) 65535) (min (b + length w) 65535)
   span_carried a b [] ha hb ls = ap₂ lengths (omega arith) (omega arith)
   span_carried a b (l ∷ w) ha hb ls = rw (lt-ltb l labels ls.0) (span_carried (longer a) (longer b) w (omega arith) (omega arith) ls.1 ∙ ap₂ lengths (omega arith) (omega arith))
 
-  module _ (ev : Events) (u i : ℕ) (spelled : (f : List Place) → Longest ev u i f → Spelled (span labels) (word ev f)) where
-    abbrev along : List Place → Lengths
-    along f = carried (span labels) (word ev f)
+  module _ (ev : Events) (u i : ℕ) (spelled : (f : List Position) → Longest ev u i f → Spelled (span labels) (word ev f)) where
+    abbrev along : List Position → Lengths
+    along f = word_value (span labels) (word ev f)
 
     -- along a longest flow both lengths are the number of its marks
-    along_is : (f : List Place) → Longest ev u i f → along f ≡ lengths (min (length f) 65535) (min (length f) 65535)
+    along_is : (f : List Position) → Longest ev u i f → along f ≡ lengths (min (length f) 65535) (min (length f) 65535)
     along_is f h =
         let marks : length (word ev f) ≡ length f = length-map f (letter_at ev) in
         span_carried 0 0 (word ev f) (omega arith) (omega arith) (spelled f h)
         ∙ ap₂ lengths (omega arith) (omega arith)
 
-    low_is : (f : List Place) → Longest ev u i f → (along f).shortest ≡ min (length f) 65535
+    low_is : (f : List Position) → Longest ev u i f → (along f).shortest ≡ min (length f) 65535
     low_is f h = ap (λ (e : Lengths). e.shortest) (along_is f h)
 
-    high_is : (f : List Place) → Longest ev u i f → (along f).longest ≡ min (length f) 65535
+    high_is : (f : List Position) → Longest ev u i f → (along f).longest ≡ min (length f) 65535
     high_is f h = ap (λ (e : Lengths). e.longest) (along_is f h)
 
-    spanned : (f : List Place) (fs : List (List Place)) → Exactly (Longest ev u i) (f ∷ fs) → Spanned ev u i (join_over (span labels) ev f fs)
+    spanned : (f : List Position) (fs : List (List Position)) → Exactly (Longest ev u i) (f ∷ fs) → Spanned ev u i (join_over (span labels) ev f fs)
     spanned f fs all =
         let x = span_joined along (along f) fs in
-        let r = joined (span labels) (along f) (map along fs) in
+        let r = join_of (span labels) (along f) (map along fs) in
         record {
           shortest = ⊎_elim
               (λ e. (f, all.sound f (inl refl), e ∙ low_is f (all.sound f (inl refl))))
               (λ p. (p.0, all.sound p.0 (inr p.1), p.2 ∙ low_is p.0 (all.sound p.0 (inr p.1))))
               x.low_from;
-          none_shorter = λ g h. (let is = low_is g h in let low : r.shortest ≤ (along g).shortest = ⊎_elim (λ e. subst (λ (a : List Place). r.shortest ≤ (along a).shortest) (sym e) x.low_first) (x.low_rest g) (all.complete g h) in omega arith);
+          none_shorter = λ g h. (let is = low_is g h in let low : r.shortest ≤ (along g).shortest = ⊎_elim (λ e. subst (λ (a : List Position). r.shortest ≤ (along a).shortest) (sym e) x.low_first) (x.low_rest g) (all.complete g h) in omega arith);
           longest = ⊎_elim
               (λ e. (f, all.sound f (inl refl), e ∙ high_is f (all.sound f (inl refl))))
               (λ p. (p.0, all.sound p.0 (inr p.1), p.2 ∙ high_is p.0 (all.sound p.0 (inr p.1))))
               x.high_from;
-          none_longer = λ g h. (let is = high_is g h in let high : (along g).longest ≤ r.longest = ⊎_elim (λ e. subst (λ (a : List Place). (along a).longest ≤ r.longest) (sym e) x.high_first) (x.high_rest g) (all.complete g h) in omega arith);
+          none_longer = λ g h. (let is = high_is g h in let high : (along g).longest ≤ r.longest = ⊎_elim (λ e. subst (λ (a : List Position). (along a).longest ≤ r.longest) (sym e) x.high_first) (x.high_rest g) (all.complete g h) in omega arith);
         }
 
-  spanned_told : (0 < labels) × (labels ≤ 64) → AtMarks (span labels) Spanned
-  spanned_told in_range n k limit cs u i l e =
+  flows_spanned : (0 < labels) × (labels ≤ 64) → AtMarks (span labels) Spanned
+  flows_spanned in_range n k limit cs u i l e =
       let admits = λ (v : Lengths). (v.shortest ≤ v.longest) × (v.longest ≤ 65535) in
       let laws = span_lawful labels in_range in
       let v = valued (span labels) admits laws n k limit cs u i l e in
@@ -134,4 +134,4 @@ module _ (labels : ℕ) where
       (v, subst (Spanned ev u i) (sym v.value_is) (spanned ev u i (λ f h. flow_spelled (span labels) n k limit ev rg u i f h.0 h.1) v.flow v.flows v.all))
 
   pub marks_spanned : (0 < labels) × (labels ≤ 64) → MarksSpanned (span labels)
-  marks_spanned in_range = at_answers (span labels) Spanned (spanned_told in_range)
+  marks_spanned in_range = at_answers (span labels) Spanned (flows_spanned in_range)

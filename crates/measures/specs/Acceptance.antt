@@ -2,10 +2,10 @@
 use Rattle.std.specs.Prelude.{◌≡◌, ℕ, ◌^◌, Bool, ◌⊎◌, ◌↔◌, List, [], ◌∷◌, map, IsTrue}
 use Rattle.std.specs.List.{AllByRecursion}
 use Rattle.bitset.specs.Sets.{Member, has}
-use Rattle.history.specs.Events.{Events, Place}
+use Rattle.history.specs.Events.{Events, Position}
 use Rattle.history.specs.Flows.{Longest, word}
 use Rattle.measures.specs.Words.{Word, Labels}
-use Rattle.measures.specs.Measures.{Meaning, carried, joined}
+use Rattle.measures.specs.Measures.{Meaning, word_value, join_of}
 use Rattle.measures.specs.Automata.{next, leads}
 use Rattle.measures.specs.Laws.{TellsOfFlows}
 use Rattle.measures.specs.Boards.{AtAnswers}
@@ -29,18 +29,18 @@ Any P (w ∷ ws) = P w ⊎ Any P ws
 pub record Recognizes (b : List ℕ) (m : Meaning ℕ) (some all : ℕ → Bool) : Type 0 where
   pub labels_are : m.labels ≡ labels_in b
   -- the set carried along a word holds just the state to which the word leads
-  pub one : (w : Word) → Labels (labels_in b) w → carried m w ≡ 2 ^ state_after b w
+  pub one : (w : Word) → Labels (labels_in b) w → word_value m w ≡ 2 ^ state_after b w
   -- the union over a non-empty list of words holds exactly the states to which they lead
   pub union : (w : Word) (ws : List Word) → AllByRecursion (Labels (labels_in b)) (w ∷ ws) → (q : ℕ)
-      → Member q (joined m (carried m w) (map (carried m) ws)) ↔ Any (λ v. state_after b v ≡ q) (w ∷ ws)
+      → Member q (join_of m (word_value m w) (map (word_value m) ws)) ↔ Any (λ v. state_after b v ≡ q) (w ∷ ws)
   -- of one word, both answers say whether it is accepted
-  pub some_is : (w : Word) → Labels (labels_in b) w → some (carried m w) ≡ accepts b w
-  pub all_is : (w : Word) → Labels (labels_in b) w → all (carried m w) ≡ accepts b w
+  pub some_is : (w : Word) → Labels (labels_in b) w → some (word_value m w) ≡ accepts b w
+  pub all_is : (w : Word) → Labels (labels_in b) w → all (word_value m w) ≡ accepts b w
 
--- What a set and two answers on it say of the longest flows that end at place i of unit u, in the words of the automaton in the bytes b.
+-- What a set and two answers on it say of the longest flows that end at position i of unit u, in the words of the automaton in the bytes b.
 pub record Reaches (b : List ℕ) (ev : Events) (u i : ℕ) (set : ℕ) (some all : Bool) : Type 0 where
   -- the set holds exactly the states to which their words lead
-  pub states : (q : ℕ) → Member q set ↔ ((f : List Place) × Longest ev u i f × (state_after b (word ev f) ≡ q))
+  pub states : (q : ℕ) → Member q set ↔ ((f : List Position) × Longest ev u i f × (state_after b (word ev f) ≡ q))
   -- some is yes exactly when one of their words is accepted, all exactly when each is
   pub verdict : TellsOfFlows (λ w. IsTrue (accepts b w)) some all ev u i
 

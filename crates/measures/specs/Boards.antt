@@ -10,7 +10,7 @@ use Rattle.history.specs.Messages.{unsent}
 use Rattle.history.specs.Stamps.{Stamp}
 use Rattle.history.specs.Runs.{SameByUnit}
 use Rattle.history.specs.declared.calls.Call.{Call}
-use Rattle.history.specs.Board.{mark_answer, outcomes, run, accepted}
+use Rattle.history.specs.Board.{mark_answer, outcomes, run, accepted_calls}
 use Rattle.history.specs.declared.calls.Answer.{Answer}
 use Rattle.history.specs.Laws.{AcceptsRuns, MessageAnswered, answers_of}
 use Rattle.history.specs.Limits.{most_marks}
@@ -30,20 +30,20 @@ pub record StandAlike {V : Type 0} (start : V) (n k : ℕ) (a b : Memory V) : Ty
   pub posts : (p : ℕ) → p < k → slice_index_or a.posts p unsent ≡ slice_index_or b.posts p unsent
 
 -- the calls of a list that were answered with no refusal
-abbrev pub taken : {V : Type 0} → List Call → List (Result (Answer V) Refusal) → List Call
-taken [] xs = []
-taken (c ∷ cs) [] = []
-taken (c ∷ cs) (Ok a ∷ xs) = c ∷ taken cs xs
-taken (c ∷ cs) (Err e ∷ xs) = taken cs xs
+abbrev pub taken_calls : {V : Type 0} → List Call → List (Result (Answer V) Refusal) → List Call
+taken_calls [] xs = []
+taken_calls (c ∷ cs) [] = []
+taken_calls (c ∷ cs) (Ok a ∷ xs) = c ∷ taken_calls cs xs
+taken_calls (c ∷ cs) (Err e ∷ xs) = taken_calls cs xs
 
 module _ {V : Type 0} (m : Meaning V) (n k : ℕ) where
   -- A board of n units and k messages, just made, was handed the calls cs in this order, and nothing else wrote its memory: it answered them
   -- so, and its memory holds this now.
   pub record Played (cs : List Call) (answers : List (Result (Answer V) Refusal)) (memory : Memory V) : Type 0 where
     pub answers_are : answers ≡ outcomes (measured_payload m n) (measured_size m n k most_marks) cs
-    pub shows : Shows m.start n k memory (run (measured_payload m n) (measured_size m n k most_marks) cs).state
+    pub shows : Shows m.start n k memory (run (measured_payload m n) (measured_size m n k most_marks) cs).contents
 
-  -- What the accepted mark at place i of unit u was answered: its own number, the units of its immediate predecessors, and the join of the
+  -- What the accepted mark at position i of unit u was answered: its own number, the units of its immediate predecessors, and the join of the
   -- measure along the longest flows that end there, each taken exactly once and no other.
   pub record MarkAnswered (cs : List Call) (answers : List (Result (Answer V) Refusal)) (u i : ℕ) : Type 0 where
     pub valued : Valued m n k most_marks cs u i
@@ -85,7 +85,7 @@ pub record LawOfBoards {V : Type 0} (m : Meaning V) (admits : V → Type 0) : Ty
       → Played m n k cs xs old → Obeys (setup (measured_rules m) n k) c old new x → has_room n k old ≡ false → (x ≡ Err MemoryTooShort) × Played m n k cs xs new
   -- the accepted calls are those that were answered with no refusal
   pub accepted_are : (n k : ℕ) (cs : List Call) (xs : List (Result (Answer V) Refusal)) (memory : Memory V) → Played m n k cs xs memory
-      → accepted (measured_payload m n) (measured_size m n k most_marks) cs ≡ taken cs xs
+      → accepted_calls (measured_payload m n) (measured_size m n k most_marks) cs ≡ taken_calls cs xs
   -- and they are what a real run could do, no more and no less
   pub accepts : (n k : ℕ) (cs : List Call) → AcceptsRuns (measured_payload m n) (measured_size m n k most_marks) cs
   -- the value answered at each accepted mark is the join along the longest flows that end there
@@ -101,7 +101,7 @@ pub record LawOfBoards {V : Type 0} (m : Meaning V) (admits : V → Type 0) : Ty
       → (a : Answer V) × (slice_get (answers_of u cs xs) i ≡ Some a) × MessageAnswered (accepted_events m n k most_marks cs) u i e a
   -- the order of the calls of different units does not matter
   pub order : (n k : ℕ) (cs ds : List Call) (xs ys : List (Result (Answer V) Refusal)) (a b : Memory V) → Played m n k cs xs a → Played m n k ds ys b
-      → SameByUnit (accepted (measured_payload m n) (measured_size m n k most_marks) cs) (accepted (measured_payload m n) (measured_size m n k most_marks) ds) → Agree m n k cs ds xs ys a b
+      → SameByUnit (accepted_calls (measured_payload m n) (measured_size m n k most_marks) cs) (accepted_calls (measured_payload m n) (measured_size m n k most_marks) ds) → Agree m n k cs ds xs ys a b
   -- under every judge, some of the value answered is yes exactly when one of the longest flows is good, all exactly when each is
   pub judged : (some all : V → Bool) (good : Word → Bool) → Judges ◌||◌ m admits some (λ w. IsTrue (good w)) → Judges ◌&&◌ m admits all (λ w. IsTrue (good w))
       → MarksGood m some all (λ w. IsTrue (good w))

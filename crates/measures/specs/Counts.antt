@@ -28,7 +28,7 @@ count_meaning m = flow_count m.labels.number
 pub count_lawful : (m : FlowCount) → Lawful (count_meaning m) IsCount
 count_lawful m = flow_count_lawful m.labels.number m.labels.in_range
 
--- The value is the number of the longest flows that end at place i of unit u, up to the cap.
+-- The value is the number of the longest flows that end at position i of unit u, up to the cap.
 abbrev pub Counted : Events → ℕ → ℕ → ℕ → Type 0
 Counted ev u i v = (flows : ℕ) × HowMany (Longest ev u i) flows × (v ≡ min flows most_flows)
 

@@ -79,8 +79,8 @@ abbrev pub pattern_fault : List ℕ → Option Fault
 pattern_fault b = option_or (head_fault b) (table_fault b head_size (states_in b * labels_in b) (states_in b))
 
 -- a table with zeros after its entries, n in all
-abbrev pub padded : ℕ → List ℕ → List ℕ
-padded n entries = entries ++ replicate (n - length entries) 0
+abbrev pub with_zeros : ℕ → List ℕ → List ℕ
+with_zeros n entries = entries ++ replicate (n - length entries) 0
 
 -- The parts of a pattern are those that its bytes b give.
 pub record PatternOf (b : List ℕ) (states labels start finals : ℕ) (table : List ℕ) : Type 0 where
@@ -88,7 +88,7 @@ pub record PatternOf (b : List ℕ) (states labels start finals : ℕ) (table : 
   pub labels_are : labels ≡ labels_in b
   pub start_is : start ≡ start_in b
   pub finals_are : finals ≡ finals_in b
-  pub table_is : table ≡ padded most_entries (table_in b)
+  pub table_is : table ≡ with_zeros most_entries (table_in b)
 
 -- A relabelling's bytes, from the byte `at` of b on, are 30 in hexadecimal, the number of labels, and an entry for each.
 

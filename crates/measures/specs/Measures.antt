@@ -35,21 +35,21 @@ pub record Lawful {V : Type 0} (m : Meaning V) (admits : V → Type 0) : Type 0 
   pub distributes : (a b : V) (l : Letter) → admits a → admits b → Fits m l → m.step (m.join a b) l ≡ m.join (m.step a l) (m.step b l)
 
 -- v stepped by each letter of a word in turn
-abbrev pub carried_from : {V : Type 0} → Meaning V → V → Word → V
-carried_from m v [] = v
-carried_from m v (l ∷ w) = carried_from m (m.step v l) w
+abbrev pub word_value_from : {V : Type 0} → Meaning V → V → Word → V
+word_value_from m v [] = v
+word_value_from m v (l ∷ w) = word_value_from m (m.step v l) w
 
 -- The measure carried along a word is its start, stepped by each letter in turn.
-abbrev pub carried : {V : Type 0} → Meaning V → Word → V
-carried m w = carried_from m m.start w
+abbrev pub word_value : {V : Type 0} → Meaning V → Word → V
+word_value m w = word_value_from m m.start w
 
 -- the join, in turn, of the non-empty list that begins with v
-abbrev pub joined : {V : Type 0} → Meaning V → V → List V → V
-joined m v [] = v
-joined m v (x ∷ xs) = joined m (m.join v x) xs
+abbrev pub join_of : {V : Type 0} → Meaning V → V → List V → V
+join_of m v [] = v
+join_of m v (x ∷ xs) = join_of m (m.join v x) xs
 
 -- Carrying the join of any non-empty list of admitted values along any word of its letters is joining what each value is carried to.
 abbrev pub Carries : {V : Type 0} → Meaning V → (V → Type 0) → Type 0
 Carries {V} m admits =
     (v : V) (vs : List V) (w : Word) → admits v → AllByRecursion admits vs → Spelled m w
-    → carried_from m (joined m v vs) w ≡ joined m (carried_from m v w) (map (λ x. carried_from m x w) vs)
+    → word_value_from m (join_of m v vs) w ≡ join_of m (word_value_from m v w) (map (λ x. word_value_from m x w) vs)

@@ -1,7 +1,7 @@
 -- The span.
 use Rattle.std.specs.Prelude.{◌≡◌, ℕ, ◌+◌, ◌<◌, ◌≤◌, ◌↔◌, Bool, List, length, min, max, if◌then◌else◌, nat_le, nat_lt}
 use Rattle.std.proofs.Common.{rules}
-use Rattle.history.specs.Events.{Events, Place}
+use Rattle.history.specs.Events.{Events, Position}
 use Rattle.history.specs.Flows.{Longest}
 use Rattle.measures.specs.declared.spans.Lengths.{Lengths}
 use Rattle.measures.specs.declared.spans.Span.{Span}
@@ -62,13 +62,13 @@ pub record IsSpan (labels limit : ℕ) (m : Meaning Lengths) (some all : Lengths
   pub all_is : (v : Lengths) → all v ≡ nat_le v.longest limit
   pub good_is : (w : Word) → good w ↔ (length w ≤ limit)
 
--- What a span says of the longest flows that end at place i of unit u: the numbers of marks of the shortest and of the longest of them,
+-- What a span says of the longest flows that end at position i of unit u: the numbers of marks of the shortest and of the longest of them,
 -- up to the cap.
 pub record Spanned (ev : Events) (u i : ℕ) (v : Lengths) : Type 0 where
-  pub shortest : (f : List Place) × Longest ev u i f × (v.shortest ≡ min (length f) most_length)
-  pub none_shorter : (f : List Place) → Longest ev u i f → v.shortest ≤ length f
-  pub longest : (f : List Place) × Longest ev u i f × (v.longest ≡ min (length f) most_length)
-  pub none_longer : (f : List Place) → Longest ev u i f → min (length f) most_length ≤ v.longest
+  pub shortest : (f : List Position) × Longest ev u i f × (v.shortest ≡ min (length f) most_length)
+  pub none_shorter : (f : List Position) → Longest ev u i f → v.shortest ≤ length f
+  pub longest : (f : List Position) × Longest ev u i f × (v.longest ≡ min (length f) most_length)
+  pub none_longer : (f : List Position) → Longest ev u i f → min (length f) most_length ≤ v.longest
 
 -- So it is of the value answered at each accepted mark of every list of calls.
 abbrev pub MarksSpanned : Meaning Lengths → Type 0

@@ -16,14 +16,14 @@ module _ {V : Type 0} (m : Meaning V) where
   plus (Some x) (Some y) = Some (m.join x y)
 
   -- the values of the flagged cells below n, joined in rising order
-  abbrev pub gathered : (ℕ → Cell V) → ℕ → Option V
-  gathered r zero = None
-  gathered r (suc j) = if (r j).flag then plus (gathered r j) (Some (r j).value) else gathered r j
+  abbrev pub flagged_join : (ℕ → Cell V) → ℕ → Option V
+  flagged_join r zero = None
+  flagged_join r (suc j) = if (r j).flag then plus (flagged_join r j) (Some (r j).value) else flagged_join r j
 
   -- What a mark of unit u with label l is worth: the join of the flagged values, or start if there are none, stepped by the
   -- mark's letter.
   abbrev pub worth : ℕ → (ℕ → Cell V) → ℕ → ℕ → V
-  worth n r u l = m.step (unwrap_or (gathered r n) m.start) (letter_of u l)
+  worth n r u l = m.step (unwrap_or (flagged_join r n) m.start) (letter_of u l)
 
   -- what the cells of a board of n units carry under the measure
   abbrev pub measured_payload : ℕ → Payload V

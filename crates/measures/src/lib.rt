@@ -6,7 +6,7 @@
 
 ghost use Rattle.std.specs.Prelude.{◌≡◌};
 ghost use Rattle.measures.specs.Laws.{LawOfRuns};
-ghost use Rattle.measures.specs.Measures.{Meaning, Lawful, carried, Carries};
+ghost use Rattle.measures.specs.Measures.{Meaning, Lawful, word_value, Carries};
 
 pub mod boards;
 pub mod counts;
@@ -63,9 +63,9 @@ pub trait Measure {
 // The measure carried along a word of labels. It goes through joins (`carries`), and in every run of a board the value told at each
 // accepted mark is the join of what it makes of the words of the longest flows that end there, each taken once, whatever the order of the
 // calls (`runs`).
-#[tactic(auto, using(crate::proofs::Carrying::carried_more, crate::proofs::Carrying::carries))]
+#[tactic(auto, using(crate::proofs::WordValueFacts::carried_more, crate::proofs::WordValueFacts::carries))]
 pub fn carry<M: Measure>(m: &M, word: &[u8]) -> M::Value
-    ensures value { result ≡ carried (M.meaning m.now) word.now }
+    ensures value { result ≡ word_value (M.meaning m.now) word.now }
     ensures carries { Carries (M.meaning m.now) (M.admits m.now) }
     ensures runs { LawOfRuns (M.meaning m.now) }
 {

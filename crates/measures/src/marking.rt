@@ -1,6 +1,6 @@
 // What a mark is worth: the values of the flows that go on through it.
 ghost use Rattle.std.specs.Prelude.{◌≡◌, ℕ, ◌^◌, ◌<◌, Some};
-ghost use Rattle.measures.specs.Worths.{plus, gathered, worth};
+ghost use Rattle.measures.specs.Worths.{plus, flagged_join, worth};
 ghost use Rattle.history.specs.declared.cells.Cell.{Cell};
 ghost use Rattle.causality.specs.Payloads.{Reads};
 ghost use Rattle.measures.specs.Calls.{flagged_by};
@@ -21,7 +21,7 @@ fn joined_to<M: Measure>(m: &M, before: Option<M::Value>, v: M::Value) -> M::Val
 
 // The values of the members of a set, joined in rising order, or none of the empty set. A value that is not there counts as the start.
 fn gather<M: Measure>(m: &M, set: u64, values: &[M::Value]) -> Option<M::Value>
-    ensures { (n : ℕ) → set < 2 ^ n → result ≡ gathered (M.meaning m.now) (flagged_by set (M.meaning m.now).start values.now) n }
+    ensures { (n : ℕ) → set < 2 ^ n → result ≡ flagged_join (M.meaning m.now) (flagged_by set (M.meaning m.now).start values.now) n }
 {
     let mut rest = set;
     let mut all = None;

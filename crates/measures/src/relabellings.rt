@@ -1,7 +1,7 @@
 // The relabelling: any measure, stepped by the labels that a table gives for its own.
 ghost use Rattle.std.specs.Prelude.{◌≡◌, ◌+◌, ◌<◌, ◌≤◌, length, Some, None, MatchResult};
-ghost use Rattle.measures.specs.Formats.{relabelling_head_fault, relabelling_fault, relabelling_labels_in, entries_in, padded};
-ghost use Rattle.measures.specs.Relabellings.{translated_label, translated, relabelled};
+ghost use Rattle.measures.specs.Formats.{relabelling_head_fault, relabelling_fault, relabelling_labels_in, entries_in, with_zeros};
+ghost use Rattle.measures.specs.Relabellings.{inner_label, translation, relabelling};
 ghost use Rattle.measures.specs.RelabellingLaws.{relabelled_lawful};
 
 use super::Measure;
@@ -29,7 +29,7 @@ impl LabelTable {
     // The entry of l, or 0 where that is none of the n inner labels; a relabelling that was read has no such entry.
     fn inner_label(&self, l: u8, n: u8) -> u8
         requires { l < self.now.count.number }
-        ensures { result ≡ translated_label self.now.entries n l }
+        ensures { result ≡ inner_label self.now.entries n l }
     {
         let entry = self.entries[l as usize];
         if entry < n { entry } else { 0 }
@@ -58,7 +58,7 @@ impl LabelTable {
             MatchResult result
             (λ t. (fault ≡ None)
             × (t.count.number ≡ relabelling_labels_in cursor.entry.input.now cursor.entry.place)
-            × (t.entries ≡ padded 64 (entries_in cursor.entry.input.now cursor.entry.place)))
+            × (t.entries ≡ with_zeros 64 (entries_in cursor.entry.input.now cursor.entry.place)))
             (λ f. fault ≡ Some f) }
     {
         let count = Self::read_count(cursor)?;
@@ -84,7 +84,7 @@ impl<M: Measure> Relabelling<M> {
             MatchResult result
             (λ m. (fault ≡ None)
             × (m.table.count.number ≡ relabelling_labels_in cursor.entry.input.now cursor.entry.place)
-            × (m.table.entries ≡ padded 64 (entries_in cursor.entry.input.now cursor.entry.place))
+            × (m.table.entries ≡ with_zeros 64 (entries_in cursor.entry.input.now cursor.entry.place))
             × (m.inner ≡ inner))
             (λ f. fault ≡ Some f) }
     {
@@ -103,7 +103,7 @@ impl<M: Measure> Relabelling<M> {
 impl<M: Measure> Measure for Relabelling<M> {
     type Value = M::Value;
 
-    ghost meaning = { λ r. relabelled r.table.entries r.table.count.number (M.Measure.meaning r.inner) };
+    ghost meaning = { λ r. relabelling r.table.entries r.table.count.number (M.Measure.meaning r.inner) };
 
     ghost admits = { λ r v. M.Measure.admits r.inner v };
 
@@ -132,7 +132,7 @@ impl<M: Measure> Measure for Relabelling<M> {
 }
 
 impl<M: Judge> Judge for Relabelling<M> {
-    ghost good = { λ r w. M.Judge.good r.inner (translated r.table.entries (M.Measure.meaning r.inner).labels w) };
+    ghost good = { λ r w. M.Judge.good r.inner (translation r.table.entries (M.Measure.meaning r.inner).labels w) };
 
     ghost some_of = { λ r v. M.Judge.some_of r.inner v };
 

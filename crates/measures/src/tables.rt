@@ -1,6 +1,6 @@
 // Tables of bytes: read from an input, each entry below a bound.
 ghost use Rattle.std.specs.Prelude.{◌≡◌, ℕ, ◌<◌, ◌≤◌, length, take, drop, Some, None, MatchResult, slice_index};
-ghost use Rattle.measures.specs.Formats.{first_over, table_fault, padded};
+ghost use Rattle.measures.specs.Formats.{first_over, table_fault, with_zeros};
 
 use super::refusals::{Fault, Refusal};
 use text::Cursor;
@@ -37,7 +37,7 @@ pub(crate) fn table<'a>(cursor: Cursor<'a>, count: usize, bound: u8) -> Result<&
 // The entries, and zeros after them.
 pub(crate) fn with_zeros<const N: usize>(entries: &[u8]) -> [u8; N]
     requires { length entries.now ≤ N }
-    ensures { result ≡ padded N entries.now }
+    ensures { result ≡ with_zeros N entries.now }
 {
     let mut all = [0; N];
     all[..entries.len()].copy_from_slice(entries);

@@ -3,7 +3,7 @@
 use Rattle.std.proofs.Common.{◌≡◌, ℕ, ◌==◌, Bool, if◌then◌else◌, List, [], ◌∷◌, ◌++◌, drop, None, sym, refl, ap, ◌∙◌, subst, inl, inr}
 use Rattle.std.proofs.Math.Path.{fun_ext}
 use Rattle.std.proofs.lemmas.Bool.{cases_eq, eq-eqb, ne_eqb}
-use Rattle.history.specs.Board.{History, new_history, acted, answer_to, outcomes_from, outcomes, accepted}
+use Rattle.history.specs.Board.{History, new_history, contents_after, answer_to, outcomes_from, outcomes, accepted_calls}
 use Rattle.history.specs.declared.calls.Answer.{Answer}
 use Rattle.history.specs.declared.calls.Answer.TheVariants.{Sent, Received, Marked}
 use Rattle.history.specs.Counting.{HowMany}
@@ -49,18 +49,18 @@ module _ (m : Meaning ℕ) (some all : ℕ → Bool) where
 
     module _ (M : Payload ℕ) (z : Size) where
       -- Each unit's lines are those of the answers to its calls before the first refusal.
-      lines_answered : (h : History ℕ) (cs : List Call) → lines_of u (lines m some all cs (outcomes_from M z h.state cs))
-          ≡ lines_by (answers_of u (reads M z h.state cs) (outcomes_from M z h.state (reads M z h.state cs)))
+      lines_answered : (h : History ℕ) (cs : List Call) → lines_of u (lines m some all cs (outcomes_from M z h.contents cs))
+          ≡ lines_by (answers_of u (reads M z h.contents cs) (outcomes_from M z h.contents (reads M z h.contents cs)))
       lines_answered = by_calls M z
-          (λ h cs. lines_of u (lines m some all cs (outcomes_from M z h.state cs)) ≡ lines_by (answers_of u (reads M z h.state cs) (outcomes_from M z h.state (reads M z h.state cs))))
+          (λ h cs. lines_of u (lines m some all cs (outcomes_from M z h.contents cs)) ≡ lines_by (answers_of u (reads M z h.contents cs) (outcomes_from M z h.contents (reads M z h.contents cs))))
           (λ h. refl)
-          (λ h c cs e ih. rw (e, e) (one_line c.unit (answer_to M z c.unit c.event (h.state.rows c.unit) ((acted M z h.state c.unit c.event).rows c.unit)) _ _ ih))
+          (λ h c cs e ih. rw (e, e) (one_line c.unit (answer_to M z c.unit c.event (h.contents.rows c.unit) ((contents_after M z h.contents c.unit c.event).rows c.unit)) _ _ ih))
           (λ h c cs x e same. rw e refl)
 
   -- The calls of a transcript are all accepted by some board, and its lines are those of the answers to them.
   abbrev OnBoard : Transcript → Type 0
   OnBoard t =
-      (n k : ℕ) × (accepted (measured_payload m n) (measured_size m n k most_marks) t.calls ≡ t.calls)
+      (n k : ℕ) × (accepted_calls (measured_payload m n) (measured_size m n k most_marks) t.calls ≡ t.calls)
       × ((u : ℕ) → lines_of u t.lines ≡ lines_by u (answers_of u t.calls (outcomes (measured_payload m n) (measured_size m n k most_marks) t.calls)))
 
   -- So it is of each transcript.

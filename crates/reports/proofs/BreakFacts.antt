@@ -7,7 +7,7 @@ use Rattle.history.specs.declared.refusals.Refusal.{Refusal}
 use Rattle.history.specs.Rows.{Payload}
 use Rattle.history.specs.Runs.{Size}
 use Rattle.history.specs.declared.Call.{Call}
-use Rattle.history.specs.Board.{History, new_history, new_state, outcomes_from, refusal, run_from, state_from}
+use Rattle.history.specs.Board.{History, new_history, new_contents, outcomes_from, refusal, run_from, contents_from}
 use Rattle.history.proofs.Promises.{by_calls, taken}
 use Rattle.history.specs.Limits.{most_marks}
 use Rattle.causality.specs.Boards.{make_refusal, left_among}
@@ -31,21 +31,21 @@ module _ (M : Payload ℕ) (z : Size) where
   -- Where answers break off, each call was read, and what closes them does so; or it is the call after those read that is refused.
   abbrev pub BreakOff : History ℕ → List Call → Type 0
   BreakOff h cs =
-      (place : ℕ) (closing : Result ℕ RecordingFault) (f : RecordingFault) → ending place (outcomes_from M z h.state cs) closing ≡ Err f
-      → ((closing ≡ Err f) × (reads M z h.state cs ≡ cs))
-      ⊎ ((e : Refusal) × (c : Call) × (after : List Call) × (cs ≡ reads M z h.state cs ++ c ∷ after)
-      × (refusal M z (run_from M z h (reads M z h.state cs)).state c.unit c.event ≡ Some e) × (Refused e ≡ f.reason) × (f.place ≡ place + call_size * length (reads M z h.state cs)))
+      (place : ℕ) (closing : Result ℕ RecordingFault) (f : RecordingFault) → ending place (outcomes_from M z h.contents cs) closing ≡ Err f
+      → ((closing ≡ Err f) × (reads M z h.contents cs ≡ cs))
+      ⊎ ((e : Refusal) × (c : Call) × (after : List Call) × (cs ≡ reads M z h.contents cs ++ c ∷ after)
+      × (refusal M z (run_from M z h (reads M z h.contents cs)).contents c.unit c.event ≡ Some e) × (Refused e ≡ f.reason) × (f.place ≡ place + call_size * length (reads M z h.contents cs)))
 
   pub break_off : (h : History ℕ) (cs : List Call) → BreakOff h cs
   break_off = by_calls M z BreakOff (λ h place closing f is. inl (is, refl)) if_accepted if_refused
     where
-      if_accepted : (h : History ℕ) (c : Call) (cs : List Call) → refusal M z h.state c.unit c.event ≡ None → BreakOff (taken M z h c) cs → BreakOff h (c ∷ cs)
+      if_accepted : (h : History ℕ) (c : Call) (cs : List Call) → refusal M z h.contents c.unit c.event ≡ None → BreakOff (taken M z h c) cs → BreakOff h (c ∷ cs)
       if_accepted h c cs allowed ih = rw (allowed, allowed) (λ place closing f is. elim (ih (place + call_size) closing f is) [
         | inl (closes, whole) ↦ inl (closes, ap (λ (l : List Call). c ∷ l) whole)
         | inr (e, d, after, split, refused_so, reason, there) ↦ inr (e, d, after, ap (λ (l : List Call). c ∷ l) split, refused_so, reason, omega arith)
       ])
 
-      if_refused : (h : History ℕ) (c : Call) (cs : List Call) (x : Refusal) → refusal M z h.state c.unit c.event ≡ Some x → BreakOff h cs → BreakOff h (c ∷ cs)
+      if_refused : (h : History ℕ) (c : Call) (cs : List Call) (x : Refusal) → refusal M z h.contents c.unit c.event ≡ Some x → BreakOff h cs → BreakOff h (c ∷ cs)
       if_refused h c cs x refused_so same = rw refused_so (λ place closing f is.
           let (reason, there) = same_break (Refused x) place f is in
           inr (x, c, cs, refl, refused_so, reason, omega arith))
@@ -89,7 +89,7 @@ module _ (b : List ℕ) where
     z = measured_size (judge_in b) n k most_marks
 
     abbrev t : Transcript
-    t = transcript_on (judge_in b) (some_in b) (all_in b) n k (new_state M) (recording_at b + making_size) rest
+    t = transcript_on (judge_in b) (some_in b) (all_in b) n k (new_contents M) (recording_at b + making_size) rest
 
     transcript_is_on_board : transcript_in b ≡ t
     transcript_is_on_board = by_board n k rest first None made
@@ -140,7 +140,7 @@ module _ (b : List ℕ) where
     -- Where a board's calls break off, they are those before the break, and what stands there is a reason.
     on_board : t.end ≡ Err f → (t.calls ≡ calls_in (drop (recording_at b + making_size) (take f.place b))) × Breaks b f.place f.reason
     on_board ends =
-        let left = left_among (state_from M z (new_state M) (calls_in rest)).posts k in
+        let left = left_among (contents_from M z (new_contents M) (calls_in rest)).posts k in
         elim (break_off M z (new_history M) (calls_in rest) (recording_at b + making_size) (end_after_calls left last (first_command tail)) f ends) [
           | inl (closes_so, whole) ↦
               let same : length t.calls ≡ length (calls_in rest) = ap length whole in

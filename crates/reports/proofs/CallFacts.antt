@@ -4,7 +4,7 @@
 use Rattle.std.proofs.Common.{◌≡◌, ℕ, zero, suc, ◌+◌, ◌*◌, ◌<◌, Bool, List, [], ◌∷◌, ◌++◌, length, drop, take, Some, None, Ok, Err, Option, Result, refl, sym, ap, ◌∙◌, arith}
 use Rattle.std.proofs.lemmas.List.{drop-drop}
 use Rattle.history.specs.declared.refusals.Refusal.{Refusal}
-use Rattle.history.specs.Board.{State, next, outcome, outcomes_from, state_from}
+use Rattle.history.specs.Board.{Contents, next_contents, outcome, outcomes_from, contents_from}
 use Rattle.history.specs.declared.calls.Answer.{Answer}
 use Rattle.history.specs.declared.calls.Event.{Event}
 use Rattle.history.specs.Rows.{Payload}
@@ -77,7 +77,7 @@ end_transcript n k end = record { units = n; messages = k; calls = []; lines = [
 abbrev pub transcript_with : List Call → List MarkLine → Transcript → Transcript
 transcript_with cs ls t = record { units = t.units; messages = t.messages; calls = cs ++ t.calls; lines = ls ++ t.lines; end = t.end }
 
-module _ (m : Meaning ℕ) (some all : ℕ → Bool) (n k : ℕ) (s : State ℕ) (place : ℕ) (bytes : List ℕ) where
+module _ (m : Meaning ℕ) (some all : ℕ → Bool) (n k : ℕ) (s : Contents ℕ) (place : ℕ) (bytes : List ℕ) where
   abbrev M : Payload ℕ
   M = measured_payload m n
 
@@ -85,7 +85,7 @@ module _ (m : Meaning ℕ) (some all : ℕ → Bool) (n k : ℕ) (s : State ℕ)
   z = measured_size m n k most_marks
 
   -- the transcript if the bytes begin with these calls, which are answered so, and lead to this state
-  abbrev transcript_by_answers : List Call → List (Result (Answer ℕ) Refusal) → State ℕ → Transcript
+  abbrev transcript_by_answers : List Call → List (Result (Answer ℕ) Refusal) → Contents ℕ → Transcript
   transcript_by_answers cs xs t = record {
     units = n;
     messages = k;
@@ -96,7 +96,7 @@ module _ (m : Meaning ℕ) (some all : ℕ → Bool) (n k : ℕ) (s : State ℕ)
 
   -- the transcript if the bytes begin with these calls
   abbrev transcript_of_calls : List Call → Transcript
-  transcript_of_calls cs = transcript_by_answers cs (outcomes_from M z s cs) (state_from M z s cs)
+  transcript_of_calls cs = transcript_by_answers cs (outcomes_from M z s cs) (contents_from M z s cs)
 
   -- Where there are no calls, the bytes close the recording.
   pub transcript_on-no_call : calls_in bytes ≡ [] → transcript_on m some all n k s place bytes ≡ end_transcript n k (end_after_calls (left_among s.posts k) place (first_command bytes))
@@ -105,7 +105,7 @@ module _ (m : Meaning ℕ) (some all : ℕ → Bool) (n k : ℕ) (s : State ℕ)
   module _ (c : Call) (rest : List ℕ) (first : calls_in bytes ≡ c ∷ calls_in rest) where
     -- the transcript if the first call is answered so
     abbrev transcript_by : Result (Answer ℕ) Refusal → Transcript
-    transcript_by r = transcript_by_answers (c ∷ calls_in rest) (r ∷ outcomes_from M z (next M z s c) (calls_in rest)) (state_from M z (next M z s c) (calls_in rest))
+    transcript_by r = transcript_by_answers (c ∷ calls_in rest) (r ∷ outcomes_from M z (next_contents M z s c) (calls_in rest)) (contents_from M z (next_contents M z s c) (calls_in rest))
 
     -- A call that is refused breaks the recording off.
     pub transcript_on-refused : (e : Refusal) → outcome M z s c ≡ Err e → transcript_on m some all n k s place bytes ≡ end_transcript n k (Err (fault_at (Refused e) place))
@@ -113,7 +113,7 @@ module _ (m : Meaning ℕ) (some all : ℕ → Bool) (n k : ℕ) (s : State ℕ)
 
     -- After one that is accepted the recording goes on.
     pub transcript_on-accepted : (b u x : ℕ) → bytes ≡ b ∷ (u ∷ (x ∷ rest)) → (a : Answer ℕ) → outcome M z s c ≡ Ok a
-        → transcript_on m some all n k s place bytes ≡ transcript_with (c ∷ []) (line m some all c.unit a) (transcript_on m some all n k (next M z s c) (place + call_size) rest)
+        → transcript_on m some all n k s place bytes ≡ transcript_with (c ∷ []) (line m some all c.unit a) (transcript_on m some all n k (next_contents M z s c) (place + call_size) rest)
     transcript_on-accepted b u x is a accepted =
         let more = length (calls_in rest) in
         let further : place + call_size * suc more ≡ place + call_size + call_size * more = omega arith in

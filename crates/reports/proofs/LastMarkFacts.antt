@@ -8,10 +8,10 @@ use Rattle.history.specs.Events.{Events, Logs, at}
 use Rattle.history.specs.declared.calls.Event.TheVariants.{Mark}
 use Rattle.history.specs.declared.calls.Event.{Event}
 use Rattle.history.specs.Rows.{Payload}
-use Rattle.history.specs.Runs.{Size, by_unit, grown, call, events_in}
+use Rattle.history.specs.Runs.{Size, by_unit, with_entry, call, events_in}
 use Rattle.history.specs.declared.Call.{Call}
-use Rattle.history.specs.Board.{History, Reply, new_history, acted, answer_to, reply, refusal, run}
-use Rattle.history.specs.Laws.{happened}
+use Rattle.history.specs.Board.{History, Reply, new_history, contents_after, answer_to, reply, refusal, run}
+use Rattle.history.specs.Laws.{run_events}
 use Rattle.history.proofs.Promises.{accepts_runs, grown_here, after_taken, run_push, replies_as_long}
 use Rattle.reports.proofs.TranscriptFacts.{AllTaken, taken_accepted}
 use Rattle.reports.proofs.LineFacts.{taken_both}
@@ -39,29 +39,29 @@ module _ {V : Type 0} (M : Payload V) (z : Size) where
   pub log_is : (cs : List Call) → AllTaken M z (new_history M) cs → (run M z cs).log ≡ by_unit cs
   log_is cs taken = fun_ext (λ u. (accepts_runs M z cs).logged u ∙ ap (λ (l : List Call). by_unit l u) (taken_accepted M z (new_history M) cs taken))
 
-  module _ (before : List Call) (u l : ℕ) (taken : AllTaken M z (new_history M) before) (allowed : refusal M z (run M z before).state u (Mark l) ≡ None) where
+  module _ (before : List Call) (u l : ℕ) (taken : AllTaken M z (new_history M) before) (allowed : refusal M z (run M z before).contents u (Mark l) ≡ None) where
     -- All of the calls are accepted.
     all_taken : AllTaken M z (new_history M) (with_mark before u l)
     all_taken = taken_both M z (new_history M) before (call u (Mark l) ∷ []) taken (allowed, tt)
 
     -- The events of the run are those of the calls, and the mark stands there.
-    pub events_are : happened M z (with_mark before u l) ≡ events_in (with_mark before u l)
+    pub events_are : run_events M z (with_mark before u l) ≡ events_in (with_mark before u l)
     events_are = ap at (log_is (with_mark before u l) all_taken)
 
-    pub mark_there : happened M z (with_mark before u l) u (length (by_unit before u)) ≡ Some (Mark l)
+    pub mark_there : run_events M z (with_mark before u l) u (length (by_unit before u)) ≡ Some (Mark l)
     mark_there = ap (λ (ev : Events). ev u (length (by_unit before u))) events_are ∙ ap (λ (es : List Event). slice_get es (length (by_unit before u))) (by_unit_push before u (Mark l)) ∙ seam (by_unit before u) (Mark l) []
 
     -- What the history says that the mark was told is the answer to it.
-    pub answer_is : (r : Reply V) → at (run M z (with_mark before u l)).told u (length (by_unit before u)) ≡ Some r
-        → r.answer ≡ answer_to M z u (Mark l) ((run M z before).state.rows u) ((acted M z (run M z before).state u (Mark l)).rows u)
+    pub answer_is : (r : Reply V) → at (run M z (with_mark before u l)).replies u (length (by_unit before u)) ≡ Some r
+        → r.answer ≡ answer_to M z u (Mark l) ((run M z before).contents.rows u) ((contents_after M z (run M z before).contents u (Mark l)).rows u)
     answer_is r e =
         let h = run M z before in
-        let x = reply M z u (Mark l) (h.state.rows u) ((acted M z h.state u (Mark l)).rows u) in
+        let x = reply M z u (Mark l) (h.contents.rows u) ((contents_after M z h.contents u (Mark l)).rows u) in
         let next = run_push M z before (call u (Mark l)) ∙ after_taken M z h (call u (Mark l)) allowed in
         let last = replies_as_long M z before u ∙ ap (λ (logs : Logs). length (logs u)) (log_is before taken) in
         ap (λ (y : Reply V). y.answer)
         (same_Some _ _
         (sym e
-        ∙ ap (λ (g : History V). at g.told u (length (by_unit before u))) next
-        ∙ ap (λ (i : ℕ). at (grown h.told u x) u i) (sym last)
-        ∙ grown_here h.told u x))
+        ∙ ap (λ (g : History V). at g.replies u (length (by_unit before u))) next
+        ∙ ap (λ (i : ℕ). at (with_entry h.replies u x) u i) (sym last)
+        ∙ grown_here h.replies u x))

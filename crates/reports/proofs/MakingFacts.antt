@@ -5,7 +5,7 @@ use Rattle.grid.specs.declared.Grid.{Grid}
 use Rattle.history.specs.declared.messages.Post.{Post}
 use Rattle.history.specs.declared.refusals.Refusal.{Refusal}
 use Rattle.history.specs.Limits.{most_units, most_messages}
-use Rattle.history.specs.Board.{new_state}
+use Rattle.history.specs.Board.{new_contents}
 use Rattle.causality.specs.Boards.{Memory, has_all_rows, make_refusal, has_room, memory}
 use Rattle.measures.specs.Measures.{Meaning}
 use Rattle.measures.specs.Worths.{measured_payload}
@@ -59,7 +59,7 @@ module _ (m : Meaning ℕ) (some all : ℕ → Bool) (place : ℕ) (bytes rest :
       (sym (append-nil old) ∙ ap (λ (t : Transcript). old ++ mark_lines t.lines) (sym nothing), so ∙ ap (λ (t : Transcript). t.end) (sym nothing))
 
   -- A board that is made is handed the rest.
-  pub board_made : make_refusal n k true ≡ None → (old new : List ℕ) (result : Result ℕ RecordingFault) → Wrote old new (transcript_on m some all n k (new_state (measured_payload m n)) (place + making_size) rest) result
+  pub board_made : make_refusal n k true ≡ None → (old new : List ℕ) (result : Result ℕ RecordingFault) → Wrote old new (transcript_on m some all n k (new_contents (measured_payload m n)) (place + making_size) rest) result
       → Wrote old new (transcript m some all place bytes) result
   board_made is old new result tells = subst (λ (t : Transcript). Wrote old new t result) (sym (transcript-making None is)) tells
 

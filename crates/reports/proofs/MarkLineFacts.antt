@@ -8,7 +8,7 @@ use Rattle.history.specs.declared.calls.Event.TheVariants.{Mark}
 use Rattle.history.specs.Rows.{Payload}
 use Rattle.history.specs.Runs.{Size, Run, by_unit, call, events_in}
 use Rattle.history.specs.declared.Call.{Call}
-use Rattle.history.specs.Board.{History, mark_answer, new_history, new_state, refusal, run, after as next}
+use Rattle.history.specs.Board.{History, mark_answer, new_history, new_contents, refusal, run, history_after as next}
 use Rattle.history.proofs.Promises.{accepts_runs}
 use Rattle.history.specs.Limits.{most_marks}
 use Rattle.measures.specs.Measures.{Meaning}
@@ -26,7 +26,7 @@ use Rattle.reports.proofs.LineFacts.{taken_parts, line_at, lines_at, lines_more,
 
 -- What is true of a transcript of nothing, and of those on each new board, is true of every recording's.
 pub transcript_by_cases : (m : Meaning ℕ) (some all : ℕ → Bool) (P : Transcript → Type 0) → ((reason : Reason) (place : ℕ) → P (empty_transcript m some all reason place))
-    → ((n k place : ℕ) (bytes : List ℕ) → P (transcript_on m some all n k (new_state (measured_payload m n)) place bytes)) → (place : ℕ) (bytes : List ℕ) → P (transcript m some all place bytes)
+    → ((n k place : ℕ) (bytes : List ℕ) → P (transcript_on m some all n k (new_contents (measured_payload m n)) place bytes)) → (place : ℕ) (bytes : List ℕ) → P (transcript m some all place bytes)
 transcript_by_cases m some all P none board place bytes = elim (transcript_cases m some all place bytes) [
   | inl (reason, e) ↦ subst P (sym e) (none reason place)
   | inr (n, k, rest, _, _, e) ↦ subst P (sym e) (board n k (place + making_size) rest)
@@ -47,30 +47,30 @@ module _ (b : List ℕ) (sound : front_fault b ≡ None) (n k : ℕ) where
   lines_from h cs = lines_at (judge_in b) (some_in b) (all_in b) M z h cs
 
   -- A mark after accepted calls has a line, which tells of the longest flows that end there.
-  mark_line : (before : List Call) (u l : ℕ) → AllTaken M z new before → refusal M z (run M z before).state u (Mark l) ≡ None
+  mark_line : (before : List Call) (u l : ℕ) → AllTaken M z new before → refusal M z (run M z before).contents u (Mark l) ≡ None
       → (line : MarkLine) × (line_at (judge_in b) (some_in b) (all_in b) M z (run M z before) (call u (Mark l)) ≡ line ∷ []) × Tells b (events_in (with_mark before u l)) u (length (by_unit before u)) line
   mark_line before u l taken allowed =
       let (v, says) = sets_tell b sound n k most_marks (with_mark before u l) u (length (by_unit before u)) l (mark_there M z before u l taken allowed) in
       let a = v.answered in
       let own : MarkLine = record { unit = u; clock = a.clock; predecessors = a.predecessors; states = a.value; some = some_in b a.value; all = all_in b a.value } in (
         own,
-        sym (ap (line (judge_in b) (some_in b) (all_in b) u) (answer_is M z before u l taken allowed (record { answer = mark_answer a.clock a.predecessors a.value; stamp = a.stamp }) a.told)),
+        sym (ap (line (judge_in b) (some_in b) (all_in b) u) (answer_is M z before u l taken allowed (record { answer = mark_answer a.clock a.predecessors a.value; stamp = a.stamp }) a.reply_is)),
         subst (λ (ev : Events). Tells b ev u (length (by_unit before u)) own) (events_are M z before u l taken allowed)
             (record { unit_is = refl; clock_is = a.clock_is; predecessors_are = a.predecessors_are; states_are = says.0; verdict = says.1 }),
       )
 
   -- The calls before the first refusal are a run.
-  run_on : (cs : List Call) → Run z (reads M z (new_state M) cs)
-  run_on cs = subst (Run z) (reads_ok M z new cs) (accepts_runs M z (reads M z (new_state M) cs)).accepted_run
+  run_on : (cs : List Call) → Run z (reads M z (new_contents M) cs)
+  run_on cs = subst (Run z) (reads_ok M z new cs) (accepts_runs M z (reads M z (new_contents M) cs)).accepted_run
 
   -- There is a line for each mark among them.
-  lines_on : (cs : List Call) → length (lines_from new cs) ≡ marks_among (reads M z (new_state M) cs)
+  lines_on : (cs : List Call) → length (lines_from new cs) ≡ marks_among (reads M z (new_contents M) cs)
   lines_on cs =
       ap length (reads_lines (judge_in b) (some_in b) (all_in b) M z new cs)
-      ∙ lines_count (judge_in b) (some_in b) (all_in b) M z new (reads M z (new_state M) cs) (reads_taken M z new cs)
+      ∙ lines_count (judge_in b) (some_in b) (all_in b) M z new (reads M z (new_contents M) cs) (reads_taken M z new cs)
 
   -- And it tells of the longest flows of the calls up to that mark.
-  line_on : (cs before after : List Call) (u l : ℕ) → reads M z (new_state M) cs ≡ before ++ call u (Mark l) ∷ after
+  line_on : (cs before after : List Call) (u l : ℕ) → reads M z (new_contents M) cs ≡ before ++ call u (Mark l) ∷ after
       → (line : MarkLine) × (slice_get (lines_from new cs) (marks_among before) ≡ Some line) × Tells b (events_in (with_mark before u l)) u (length (by_unit before u)) line
   line_on cs before after u l e =
       let (taken, rest) = taken_parts M z new before (call u (Mark l) ∷ after) (subst (AllTaken M z new) e (reads_taken M z new cs)) in

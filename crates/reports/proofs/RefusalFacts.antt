@@ -8,7 +8,7 @@ use Rattle.history.specs.Events.{Logs}
 use Rattle.history.specs.Rows.{Payload}
 use Rattle.history.specs.Runs.{Size, Possible, by_unit}
 use Rattle.history.specs.declared.Call.{Call}
-use Rattle.history.specs.Board.{new_history, new_state, outcomes_from, refusal, run, state_from}
+use Rattle.history.specs.Board.{new_history, new_contents, outcomes_from, refusal, run, contents_from}
 use Rattle.history.proofs.Promises.{accepts_runs}
 use Rattle.history.specs.Limits.{most_marks}
 use Rattle.causality.specs.Boards.{left_among}
@@ -40,24 +40,24 @@ end_after_calls-refuses_nothing left place (Ok (commands.Call c, rest)) e p none
 module _ (M : Payload ℕ) (z : Size) (bytes : List ℕ) where
   -- the calls that were read
   abbrev seen : List Call
-  seen = reads M z (new_state M) (calls_in bytes)
+  seen = reads M z (new_contents M) (calls_in bytes)
 
   -- A call that is refused after them is none that could come next.
-  refused_impossible : (c : Call) (e : Refusal) → refusal M z (run M z seen).state c.unit c.event ≡ Some e → Possible z (by_unit seen) c.unit c.event → ⊥
+  refused_impossible : (c : Call) (e : Refusal) → refusal M z (run M z seen).contents c.unit c.event ≡ Some e → Possible z (by_unit seen) c.unit c.event → ⊥
   refused_impossible c e refused_so could =
       let ok = ((accepts_runs M z seen).next_call c.unit c.event).1 (subst (λ (logs : Logs). Possible z logs c.unit c.event) (sym (log_is M z seen (reads_taken M z (new_history M) (calls_in bytes)))) could) in
       none-some e (sym ok ∙ refused_so)
 
   -- So it is of the call that stands where the answers break a recording off.
   broken_impossible : (place : ℕ) (closing : Result ℕ RecordingFault) (e : Refusal) (at : ℕ) → (closing ≡ Err (fault_at (Refused e) at) → ⊥)
-      → ending place (outcomes_from M z (new_state M) (calls_in bytes)) closing ≡ Err (fault_at (Refused e) at)
+      → ending place (outcomes_from M z (new_contents M) (calls_in bytes)) closing ≡ Err (fault_at (Refused e) at)
       → (c : Call) (cs : List Call) → ((i : ℕ) → at ≡ place + i → calls_in (drop i bytes) ≡ c ∷ cs) → Possible z (by_unit seen) c.unit c.event → ⊥
   broken_impossible place closing e at other is c cs here could =
       elim (break_off M z (new_history M) (calls_in bytes) place closing (fault_at (Refused e) at) is) [
         | inl (closes, all_read) ↦ absurd (other closes)
         | inr (x, d, after, split, refused_so, reason, there) ↦
             let same : d ≡ c = let stands = calls_after bytes seen (d ∷ after) split in let stands_too = here (call_size * length seen) there in cc in
-            refused_impossible c x (subst (λ (a : Call). refusal M z (run M z seen).state a.unit a.event ≡ Some x) same refused_so) could
+            refused_impossible c x (subst (λ (a : Call). refusal M z (run M z seen).contents a.unit a.event ≡ Some x) same refused_so) could
       ]
 
 module _ (b : List ℕ) where
@@ -80,13 +80,13 @@ module _ (b : List ℕ) where
       cc
 
   -- And so it is on a board.
-  on_board : (n k : ℕ) (rest : List ℕ) → rest ≡ drop making_size bytes → RefusedIn (transcript_on (judge_in b) (some_in b) (all_in b) n k (new_state (measured_payload (judge_in b) n)) (recording_at b + making_size) rest)
+  on_board : (n k : ℕ) (rest : List ℕ) → rest ≡ drop making_size bytes → RefusedIn (transcript_on (judge_in b) (some_in b) (all_in b) n k (new_contents (measured_payload (judge_in b) n)) (recording_at b + making_size) rest)
   on_board n k rest three e place is c cs here could =
       let M = measured_payload (judge_in b) n in
       let z = measured_size (judge_in b) n k most_marks in
       let all = calls_in rest in
       let tail = drop (call_size * length all) rest in
-      let left = left_among (state_from M z (new_state M) all).posts k in
+      let left = left_among (contents_from M z (new_contents M) all).posts k in
       let end = recording_at b + making_size + call_size * length all in
       broken_impossible M z rest (recording_at b + making_size) (end_after_calls left end (first_command tail)) e place (end_after_calls-refuses_nothing left end (first_command tail) e place (λ here. (begins tail (Err (Refused e)) here).1)) is c cs
       (λ i at. ap calls_in (sym (after_making (recording_at b) b rest three i place at)) ∙ here) could

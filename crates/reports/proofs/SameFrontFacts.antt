@@ -9,10 +9,10 @@ use Rattle.bitset.specs.Sets.{meets, within}
 use Rattle.measures.specs.declared.refusals.Fault.{Fault as reader_fault}
 use Rattle.measures.specs.declared.refusals.Refusal.TheVariants.{NotAPattern, StateCount, LabelCount, StartState, FinalStates}
 use Rattle.measures.specs.Automata.{state_sets}
-use Rattle.measures.specs.Formats.{first_over, over_fault, table_fault, little_endian, states_in, labels_in, start_in, finals_in, table_in, head_fault, pattern_fault, relabelling_labels_in, entries_in, relabelling_head_fault, relabelling_fault, padded}
+use Rattle.measures.specs.Formats.{first_over, over_fault, table_fault, little_endian, states_in, labels_in, start_in, finals_in, table_in, head_fault, pattern_fault, relabelling_labels_in, entries_in, relabelling_head_fault, relabelling_fault, with_zeros}
 use Rattle.measures.specs.Measures.{Meaning}
 use Rattle.measures.specs.Refusals.{fault, ask, is_count}
-use Rattle.measures.specs.Relabellings.{relabelled}
+use Rattle.measures.specs.Relabellings.{relabelling}
 use Rattle.text.specs.Inputs.{most_bytes}
 use Rattle.reports.specs.declared.faults.Fault.TheVariants.{Pattern, Relabelling}
 use Rattle.reports.specs.Reports.{relabelling_at, recording_at, front_fault, judge_in, some_in, all_in}
@@ -72,7 +72,7 @@ head_same a c s t l m i j f g x y z w v none = rw (← x, ← y, ← z, ← w, �
 
 -- the measure of a pattern under a relabelling, by their parts
 judge_of : (states labels start : ℕ) (table : List ℕ) (count : ℕ) (entries : List ℕ) → Meaning ℕ
-judge_of states labels start table count entries = relabelled (padded 64 entries) count (state_sets states labels start (padded 4096 table))
+judge_of states labels start table count entries = relabelling (with_zeros 64 entries) count (state_sets states labels start (with_zeros 4096 table))
 
 -- equal parts, equal measures
 same_parts : {states states' labels labels' start start' count count' : ℕ} {table table' entries entries' : List ℕ}

@@ -8,7 +8,7 @@ use Rattle.std.proofs.Math.Path.{fun_ext}
 use Rattle.std.proofs.lemmas.List.{length-map}
 use Rattle.std.proofs.lemmas.Option.{same_Some, slice_get-map}
 use Rattle.bitset.proofs.Promises.{same_members}
-use Rattle.history.specs.Board.{Reply, mark_answer, outcomes, run, accepted}
+use Rattle.history.specs.Board.{Reply, mark_answer, outcomes, run, accepted_calls}
 use Rattle.history.specs.declared.calls.Answer.{Answer}
 use Rattle.history.specs.declared.calls.Answer.TheVariants.{Sent, Received}
 use Rattle.history.specs.Counting.{Exactly}
@@ -22,7 +22,7 @@ use Rattle.history.specs.Marks.{marks}
 use Rattle.history.specs.Rows.{Payload}
 use Rattle.history.specs.Runs.{Size, SameByUnit, by_unit}
 use Rattle.history.specs.declared.Call.{Call}
-use Rattle.history.proofs.Promises.{accepts_runs, messages_answered, outcomes_told, replies_as_long}
+use Rattle.history.proofs.Promises.{accepts_runs, messages_answered, replies_are_answers, replies_as_long}
 use Rattle.measures.specs.Laws.{Valued, MarksValued, join_over}
 use Rattle.measures.specs.Measures.{Meaning}
 use Rattle.measures.specs.Worths.{measured_payload, measured_size}
@@ -42,7 +42,7 @@ same_marked : {V : Type 0} (c d p q : ℕ) (x y : V) → c ≡ d → p ≡ q →
 same_marked c d p q x y same_clock same_predecessors same_value = cc
 
 module _ {V : Type 0} (m : Meaning V) (valued : MarksValued m) (limit n k n' k' : ℕ) (cs ds : List Call)
-    (whole : accepted (measured_payload m n) (measured_size m n k limit) cs ≡ cs) (whole' : accepted (measured_payload m n') (measured_size m n' k' limit) ds ≡ ds) (same : SameByUnit cs ds) where
+    (whole : accepted_calls (measured_payload m n) (measured_size m n k limit) cs ≡ cs) (whole' : accepted_calls (measured_payload m n') (measured_size m n' k' limit) ds ≡ ds) (same : SameByUnit cs ds) where
   abbrev M : Payload V
   M = measured_payload m n
 
@@ -72,10 +72,10 @@ module _ {V : Type 0} (m : Meaning V) (valued : MarksValued m) (limit n k n' k' 
 
   -- the answers to a unit
   abbrev answers : ℕ → List (Answer V)
-  answers u = map (λ r. r.answer) ((run M z cs).told u)
+  answers u = map (λ r. r.answer) ((run M z cs).replies u)
 
   abbrev answers' : ℕ → List (Answer V)
-  answers' u = map (λ r. r.answer) ((run M' z' ds).told u)
+  answers' u = map (λ r. r.answer) ((run M' z' ds).replies u)
 
   module _ (u i : ℕ) where
     -- What stands among the replies stands among the answers.
@@ -90,7 +90,7 @@ module _ {V : Type 0} (m : Meaning V) (valued : MarksValued m) (limit n k n' k' 
         let on_second : Valued m n' k' limit ds u i = valued n' k' limit ds u i l (subst (λ (x : Events). x u i ≡ Some (Mark l)) events is_mark) in
         let first = on_first.answered in
         let second = on_second.answered in
-        answer_there ((run M z cs).told u) (mark_answer first.clock first.predecessors first.value) first.stamp first.told
+        answer_there ((run M z cs).replies u) (mark_answer first.clock first.predecessors first.value) first.stamp first.reply_is
         ∙ ap Some (same_marked first.clock second.clock first.predecessors second.predecessors first.value second.value
         (first.clock_is ∙ ap (λ (x : Events). marks x u (suc i)) events ∙ sym second.clock_is)
         (same_members first.predecessors second.predecessors
@@ -98,7 +98,7 @@ module _ {V : Type 0} (m : Meaning V) (valued : MarksValued m) (limit n k n' k' 
         (λ q member. (first.predecessors_are q).1 (subst (λ (x : Events). (j : ℕ) × Immediate x q j u i) (sym events) ((second.predecessors_are q).0 member))))
         (on_first.value_is ∙ ap (λ (x : Events). join_over m x on_first.flow on_first.flows) events
         ∙ sym (on_second.value_any on_first.flow on_first.flows (subst (λ (x : Events). Exactly (Longest x u i) (on_first.flow ∷ on_first.flows)) events on_first.all))))
-        ∙ sym (answer_there ((run M' z' ds).told u) (mark_answer second.clock second.predecessors second.value) second.stamp second.told)
+        ∙ sym (answer_there ((run M' z' ds).replies u) (mark_answer second.clock second.predecessors second.value) second.stamp second.reply_is)
 
     -- the answer of a reply
     reply_there : (replies : List (Reply V)) (r : Reply V) → slice_get replies i ≡ Some r → slice_get (map (λ (x : Reply V). x.answer) replies) i ≡ Some r.answer
@@ -110,9 +110,9 @@ module _ {V : Type 0} (m : Meaning V) (valued : MarksValued m) (limit n k n' k' 
     message_same e by_marks is says =
         let (r, told, said) = messages_answered V M z cs u i e is in
         let (r', told', said') = messages_answered V M' z' ds u i e (subst (λ (x : Events). x u i ≡ Some e) events is) in
-        reply_there ((run M z cs).told u) r told
+        reply_there ((run M z cs).replies u) r told
         ∙ ap Some (says ev r.answer said ∙ ap (λ (x : Events). by_marks (marks x u i)) events ∙ sym (says ev' r'.answer said'))
-        ∙ sym (reply_there ((run M' z' ds).told u) r' told')
+        ∙ sym (reply_there ((run M' z' ds).replies u) r' told')
 
     -- Each call is answered the same on both boards.
     answer_same : (e : Event) → ev u i ≡ Some e → slice_get (answers u) i ≡ slice_get (answers' u) i
@@ -123,9 +123,9 @@ module _ {V : Type 0} (m : Meaning V) (valued : MarksValued m) (limit n k n' k' 
   -- Each unit got the same answers.
   pub same_answers : (u : ℕ) → answers_of u cs (outcomes M z cs) ≡ answers_of u ds (outcomes M' z' ds)
   same_answers u =
-      sym (outcomes_told V M z cs u)
+      sym (replies_are_answers V M z cs u)
       ∙ by_places ((run M z cs).log u) (answers u) (answers' u)
-      (length-map ((run M z cs).told u) (λ (r : Reply V). r.answer) ∙ replies_as_long M z cs u)
-      (length-map ((run M' z' ds).told u) (λ (r : Reply V). r.answer) ∙ replies_as_long M' z' ds u ∙ ap (λ (l : Logs). length (l u)) (sym logs))
+      (length-map ((run M z cs).replies u) (λ (r : Reply V). r.answer) ∙ replies_as_long M z cs u)
+      (length-map ((run M' z' ds).replies u) (λ (r : Reply V). r.answer) ∙ replies_as_long M' z' ds u ∙ ap (λ (l : Logs). length (l u)) (sym logs))
       (answer_same u)
-      ∙ outcomes_told V M' z' ds u
+      ∙ replies_are_answers V M' z' ds u

@@ -3,7 +3,7 @@
 -- one line from the rest to the text; every other command ends the rest with no lines, so the text is whole.
 use Rattle.std.proofs.Common.{◌≡◌, ℕ, ◌+◌, Bool, true, List, [], ◌∷◌, ◌++◌, Some, None, Ok, Err, Option, Result, sym, refl, ap, ◌∙◌, subst, append_assoc, append-nil}
 use Rattle.history.specs.declared.refusals.Refusal.{Refusal}
-use Rattle.history.specs.Board.{State, next}
+use Rattle.history.specs.Board.{Contents, next_contents}
 use Rattle.history.specs.declared.calls.Answer.{Answer}
 use Rattle.history.specs.declared.calls.Call.{Call}
 use Rattle.history.specs.declared.calls.Answer.TheVariants.{Sent, Received, Marked}
@@ -55,35 +55,35 @@ module _ (m : Meaning ℕ) (some all : ℕ → Bool) (u : ℕ) where
 
 -- A board of n units and k messages that shows the state s is handed the bytes that begin at the byte `from`. What is written, and the lines that the
 -- rest comes to, are the lines of the whole; and the rest ends as the whole does. The memory shows the state that the calls so far lead to.
-pub record Reached (m : Meaning ℕ) (some all : ℕ → Bool) (n k : ℕ) (s : State ℕ) (from : ℕ) (bytes old : List ℕ) (memory : Memory ℕ) (out : List ℕ) (place : ℕ) (rest : List ℕ) : Type 0 where
-  pub state : State ℕ
-  pub shows : Shows m.start n k memory state
-  pub text : out ++ mark_lines (transcript_on m some all n k state place rest).lines ≡ old ++ mark_lines (transcript_on m some all n k s from bytes).lines
-  pub end : (transcript_on m some all n k state place rest).end ≡ (transcript_on m some all n k s from bytes).end
+pub record Reached (m : Meaning ℕ) (some all : ℕ → Bool) (n k : ℕ) (s : Contents ℕ) (from : ℕ) (bytes old : List ℕ) (memory : Memory ℕ) (out : List ℕ) (place : ℕ) (rest : List ℕ) : Type 0 where
+  pub contents : Contents ℕ
+  pub shows : Shows m.start n k memory contents
+  pub text : out ++ mark_lines (transcript_on m some all n k contents place rest).lines ≡ old ++ mark_lines (transcript_on m some all n k s from bytes).lines
+  pub end : (transcript_on m some all n k contents place rest).end ≡ (transcript_on m some all n k s from bytes).end
 
-module _ {m : Meaning ℕ} {some all : ℕ → Bool} {n k : ℕ} {s : State ℕ} {from : ℕ} {bytes old : List ℕ} {memory : Memory ℕ} {out : List ℕ} {place : ℕ} {rest : List ℕ}
+module _ {m : Meaning ℕ} {some all : ℕ → Bool} {n k : ℕ} {s : Contents ℕ} {from : ℕ} {bytes old : List ℕ} {memory : Memory ℕ} {out : List ℕ} {place : ℕ} {rest : List ℕ}
     (reached : Reached m some all n k s from bytes old memory out place rest) where
-  abbrev on : State ℕ → ℕ → List ℕ → Transcript
+  abbrev on : Contents ℕ → ℕ → List ℕ → Transcript
   on = transcript_on m some all n k
 
   -- where the rest has no lines, all is written, and the whole ends as the rest does
-  stops : (r : Result ℕ RecordingFault) → on reached.state place rest ≡ end_transcript n k r → Wrote old out (on s from bytes) r
+  stops : (r : Result ℕ RecordingFault) → on reached.contents place rest ≡ end_transcript n k r → Wrote old out (on s from bytes) r
   stops r is =
       (sym (append-nil out) ∙ ap (λ (t : Transcript). out ++ mark_lines t.lines) (sym is) ∙ reached.text, ap (λ (t : Transcript). t.end) (sym is) ∙ reached.end)
 
   -- and where it has no calls, as the first command closes it
-  over : (r : Result (Command × List ℕ) Reason) → first_command rest ≡ r → calls_in rest ≡ [] → Wrote old out (on s from bytes) (end_after_calls (left_among reached.state.posts k) place r)
+  over : (r : Result (Command × List ℕ) Reason) → first_command rest ≡ r → calls_in rest ≡ [] → Wrote old out (on s from bytes) (end_after_calls (left_among reached.contents.posts k) place r)
   over r is none =
-      stops (end_after_calls (left_among reached.state.posts k) place r)
-      (transcript_on-no_call m some all n k reached.state place rest none ∙ ap (λ (c : Result (Command × List ℕ) Reason). end_transcript n k (end_after_calls (left_among reached.state.posts k) place c)) is)
+      stops (end_after_calls (left_among reached.contents.posts k) place r)
+      (transcript_on-no_call m some all n k reached.contents place rest none ∙ ap (λ (c : Result (Command × List ℕ) Reason). end_transcript n k (end_after_calls (left_among reached.contents.posts k) place c)) is)
 
   ends : (r t : Result ℕ RecordingFault) → t ≡ r → Wrote old out (on s from bytes) r → Wrote old out (on s from bytes) t
   ends r t same (text, end) = (text, same ∙ end)
 
   -- The end.
   pub closes : {more : List ℕ} → first_command rest ≡ Ok (commands.End, more) → (t : Result ℕ RecordingFault)
-      → ((s : State ℕ) → Shows m.start n k memory s → t ≡ end_after_calls (left_among s.posts k) place (Ok (commands.End, more))) → Wrote old out (on s from bytes) t
-  closes {more} is t so = ends _ t (so reached.state reached.shows) (over (Ok (commands.End, more)) is (begins rest (Ok (commands.End, more)) is))
+      → ((s : Contents ℕ) → Shows m.start n k memory s → t ≡ end_after_calls (left_among s.posts k) place (Ok (commands.End, more))) → Wrote old out (on s from bytes) t
+  closes {more} is t so = ends _ t (so reached.contents reached.shows) (over (Ok (commands.End, more)) is (begins rest (Ok (commands.End, more)) is))
 
   -- A command that is missing,
   pub missing : (r : Reason) → first_command rest ≡ Err r → (t : Result ℕ RecordingFault) → t ≡ Err (fault_at r place) → Wrote old out (on s from bytes) t
@@ -104,7 +104,7 @@ module _ {m : Meaning ℕ} {some all : ℕ → Bool} {n k : ℕ} {s : State ℕ}
         let (e, is, why) = answer_line-err m some all c.unit x r (sym refused ∙ said) in
         let (b, v, bytes, calls) = begins rest (Ok (commands.Call c, more)) first in
         ends (Err (fault_at r place)) result so (stops (Err (fault_at r place))
-        (transcript_on-refused m some all n k reached.state place rest c more calls e (sym (o.answer reached.state reached.shows) ∙ is)
+        (transcript_on-refused m some all n k reached.contents place rest c more calls e (sym (o.answer reached.contents reached.shows) ∙ is)
         ∙ ap (λ (q : Reason). end_transcript n k (Err (fault_at q place))) why))
 
     -- One that is accepted is followed by the rest, once its line is written.
@@ -112,13 +112,13 @@ module _ {m : Meaning ℕ} {some all : ℕ → Bool} {n k : ℕ} {s : State ℕ}
     accepts l accepted_so wrote is =
         let (a, same, own) = answer_line-ok m some all c.unit x l (sym accepted_so ∙ said) in
         let (b, v, bytes, calls) = begins rest (Ok (commands.Call c, more)) first in
-        let after = next (measured_payload m n) (measured_size m n k most_marks) reached.state c in
+        let after = next_contents (measured_payload m n) (measured_size m n k most_marks) reached.contents c in
         let here = line m some all c.unit a in
         let later = (on after (place + call_size) more).lines in
-        let goes_on = transcript_on-accepted m some all n k reached.state place rest c more calls b c.unit v bytes a (sym (o.answer reached.state reached.shows) ∙ same) in
+        let goes_on = transcript_on-accepted m some all n k reached.contents place rest c more calls b c.unit v bytes a (sym (o.answer reached.contents reached.shows) ∙ same) in
         record {
-          state = after;
-          shows = o.state reached.state reached.shows;
+          contents = after;
+          shows = o.contents reached.contents reached.shows;
           text = ap (λ (t : List ℕ). t ++ mark_lines later) (is ∙ ap (λ (ls : List MarkLine). out ++ mark_lines ls) (sym own))
               ∙ append_assoc out (mark_lines here) (mark_lines later)
               ∙ ap (λ (t : List ℕ). out ++ t) (sym (mark_lines_append here later))

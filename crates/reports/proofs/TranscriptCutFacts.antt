@@ -3,7 +3,7 @@
 -- once, or one byte later after an end; a call that is accepted has its line before a recording in the next state, which breaks off later.
 use Rattle.std.proofs.Common.{◌≡◌, ℕ, ◌+◌, ◌≤◌, Bool, List, [], ◌∷◌, length, drop, Ok, Err, Result, Some, None, Option, refl, sym, ap, ◌∙◌, subst, inl, inr, arith}
 use Rattle.history.specs.declared.refusals.Refusal.{Refusal}
-use Rattle.history.specs.Board.{State, next, new_state, outcome}
+use Rattle.history.specs.Board.{Contents, next_contents, new_contents, outcome}
 use Rattle.history.specs.declared.calls.Answer.{Answer}
 use Rattle.history.specs.declared.calls.Event.{Event}
 use Rattle.history.specs.Limits.{most_marks}
@@ -27,10 +27,10 @@ use Rattle.reports.proofs.TranscriptFacts.{transcript_cases}
 
 module _ (m : Meaning ℕ) (some all : ℕ → Bool) where
   module _ (n k : ℕ) where
-    abbrev on : State ℕ → ℕ → List ℕ → Transcript
+    abbrev on : Contents ℕ → ℕ → List ℕ → Transcript
     on s place bytes = transcript_on m some all n k s place bytes
 
-    module _ (s : State ℕ) (place : ℕ) (f : RecordingFault) where
+    module _ (s : Contents ℕ) (place : ℕ) (f : RecordingFault) where
       -- what has no call breaks off where all that agree so far come to what their further bytes do
       silent_on : (bytes : List ℕ) (size : ℕ) (end : Result ℕ RecordingFault) (further : List ℕ → Transcript) → f.place ≡ place + size → size ≤ length bytes
           → on s place bytes ≡ end_transcript n k end → Silent (further []) → ((other : List ℕ) → AgreeTo size bytes other → on s place other ≡ further (drop size other))
@@ -63,10 +63,10 @@ module _ (m : Meaning ℕ) (some all : ℕ → Bool) where
 
     -- whatever the state, and wherever they begin, these bytes break off so
     abbrev Breaking : List ℕ → RecordingFault → Type 0
-    Breaking bytes f = (s : State ℕ) (place : ℕ) → (on s place bytes).end ≡ Err f → Cut (on s place) place bytes f
+    Breaking bytes f = (s : Contents ℕ) (place : ℕ) → (on s place bytes).end ≡ Err f → Cut (on s place) place bytes f
 
     -- where the transcript on a board breaks off, it is cut there
-    transcript_on_cut : (s : State ℕ) (place : ℕ) (bytes : List ℕ) (f : RecordingFault) → (on s place bytes).end ≡ Err f → Cut (on s place) place bytes f
+    transcript_on_cut : (s : Contents ℕ) (place : ℕ) (bytes : List ℕ) (f : RecordingFault) → (on s place bytes).end ≡ Err f → Cut (on s place) place bytes f
     transcript_on_cut s place [] f ends = bare s place f [] refl ends
     transcript_on_cut s place (b ∷ []) f ends = bare s place f (b ∷ []) refl ends
     transcript_on_cut s place (b ∷ (u ∷ [])) f ends = bare s place f (b ∷ u ∷ []) refl ends
@@ -75,7 +75,7 @@ module _ (m : Meaning ℕ) (some all : ℕ → Bool) where
         by_answer : (e : Event) → event_in b x ≡ Some e → (r : Result (Answer ℕ) Refusal) → outcome (measured_payload m n) (measured_size m n k most_marks) s (call u e) ≡ r → Breaking rest f
             → Cut (on s place) place (b ∷ u ∷ x ∷ rest) f
         by_answer e is (Ok a) answered later =
-            let t = next (measured_payload m n) (measured_size m n k most_marks) s (call u e) in
+            let t = next_contents (measured_payload m n) (measured_size m n k most_marks) s (call u e) in
             let transcript_is : (ys : List ℕ) → on s place (b ∷ u ∷ x ∷ ys) ≡ transcript_with (call u e ∷ []) (line m some all u a) (on t (place + call_size) ys) =
             λ ys. transcript_on-accepted m some all n k s place (b ∷ u ∷ x ∷ ys) (call u e) ys (ap (λ (o : Option Event). calls_with_first u o (calls_in ys)) is) b u x refl a answered in
             later_cut (on s place) (on t (place + call_size)) place b u x (call u e ∷ []) (line m some all u a) transcript_is rest f
@@ -97,9 +97,9 @@ module _ (m : Meaning ℕ) (some all : ℕ → Bool) where
         (ap (λ (t : Transcript). t.calls) is, ap (λ (t : Transcript). t.lines) is) (refl, refl) (λ other agree. refl)
     | inr (n, k, rest, first, good, is) ↦
         let (none, b, same, whatever) = begins bytes _ first in
-        let further = transcript_on m some all n k (new_state (measured_payload m n)) (place + making_size) in
+        let further = transcript_on m some all n k (new_contents (measured_payload m n)) (place + making_size) in
         let transcript_is : (zs : List ℕ) → transcript m some all place (b ∷ n ∷ k ∷ zs) ≡ further zs =
         λ zs. ap (transcript_from m some all place) (whatever zs) ∙ ap (transcript_of_board m some all n k place zs) good in
         subst (λ (l : List ℕ). Cut (transcript m some all place) place l f) (sym same)
-        (later_cut (transcript m some all place) further place b n k [] [] transcript_is rest f (transcript_on_cut n k (new_state (measured_payload m n)) (place + making_size) rest f (sym (ap (λ (t : Transcript). t.end) is) ∙ ends)))
+        (later_cut (transcript m some all place) further place b n k [] [] transcript_is rest f (transcript_on_cut n k (new_contents (measured_payload m n)) (place + making_size) rest f (sym (ap (λ (t : Transcript). t.end) is) ∙ ends)))
   ]

@@ -4,7 +4,7 @@ use Rattle.history.specs.declared.refusals.Refusal.{Refusal}
 use Rattle.history.specs.Rows.{Payload}
 use Rattle.history.specs.Runs.{Size}
 use Rattle.history.specs.declared.Call.{Call}
-use Rattle.history.specs.Board.{History, State, new_state, new_history, acted, answer_to, outcomes_from, if_taken, refusal, after, run_from, run, accepted_from, state_from}
+use Rattle.history.specs.Board.{History, Contents, new_contents, new_history, contents_after, answer_to, outcomes_from, if_taken, refusal, history_after, run_from, run, accepted_calls_from, contents_from}
 use Rattle.history.proofs.Promises.{by_calls}
 use Rattle.causality.specs.Boards.{make_refusal}
 use Rattle.measures.specs.Measures.{Meaning}
@@ -19,44 +19,44 @@ use Rattle.reports.specs.Recordings.{calls_before_refusal, line, lines, empty_tr
 
 module _ {V : Type 0} (M : Payload V) (z : Size) where
   -- the calls before the first refusal
-  abbrev pub reads : State V → List Call → List Call
+  abbrev pub reads : Contents V → List Call → List Call
   reads s cs = calls_before_refusal cs (outcomes_from M z s cs)
 
   -- each call is accepted after those before it
   abbrev pub AllTaken : History V → List Call → Type 0
   AllTaken h [] = Unit {0}
-  AllTaken h (c ∷ cs) = (refusal M z h.state c.unit c.event ≡ None) × AllTaken (after M z h c) cs
+  AllTaken h (c ∷ cs) = (refusal M z h.contents c.unit c.event ≡ None) × AllTaken (history_after M z h c) cs
 
   -- The calls before the first refusal are all accepted.
-  pub reads_taken : (h : History V) (cs : List Call) → AllTaken h (reads h.state cs)
-  reads_taken = by_calls M z (λ h cs. AllTaken h (reads h.state cs)) (λ h. tt) (λ h c cs allowed later. rw (allowed, allowed) (refl, later)) (λ h c cs refused_so allowed same. rw allowed tt)
+  pub reads_taken : (h : History V) (cs : List Call) → AllTaken h (reads h.contents cs)
+  reads_taken = by_calls M z (λ h cs. AllTaken h (reads h.contents cs)) (λ h. tt) (λ h c cs allowed later. rw (allowed, allowed) (refl, later)) (λ h c cs refused_so allowed same. rw allowed tt)
 
   -- Where all are accepted, the accepted calls are all of them.
-  pub taken_accepted : (h : History V) (cs : List Call) → AllTaken h cs → accepted_from M z h cs ≡ cs
+  pub taken_accepted : (h : History V) (cs : List Call) → AllTaken h cs → accepted_calls_from M z h cs ≡ cs
   taken_accepted h [] taken = refl
   taken_accepted h (c ∷ cs) taken =
-      ap (λ (o : Option Refusal). if_taken o (c ∷ accepted_from M z (after M z h c) cs) (accepted_from M z (after M z h c) cs)) taken.0
-      ∙ ap (λ (l : List Call). c ∷ l) (taken_accepted (after M z h c) cs taken.1)
+      ap (λ (o : Option Refusal). if_taken o (c ∷ accepted_calls_from M z (history_after M z h c) cs) (accepted_calls_from M z (history_after M z h c) cs)) taken.0
+      ∙ ap (λ (l : List Call). c ∷ l) (taken_accepted (history_after M z h c) cs taken.1)
 
   -- So they are all of the accepted calls among them.
-  pub reads_ok : (h : History V) (cs : List Call) → accepted_from M z h (reads h.state cs) ≡ reads h.state cs
-  reads_ok h cs = taken_accepted h (reads h.state cs) (reads_taken h cs)
+  pub reads_ok : (h : History V) (cs : List Call) → accepted_calls_from M z h (reads h.contents cs) ≡ reads h.contents cs
+  reads_ok h cs = taken_accepted h (reads h.contents cs) (reads_taken h cs)
 
   -- The state after a list of calls is its run's.
-  state_run : (h : History V) (cs : List Call) → state_from M z h.state cs ≡ (run_from M z h cs).state
+  state_run : (h : History V) (cs : List Call) → contents_from M z h.contents cs ≡ (run_from M z h cs).contents
   state_run h [] = refl
-  state_run h (c ∷ cs) = state_run (after M z h c) cs
+  state_run h (c ∷ cs) = state_run (history_after M z h c) cs
 
   -- And so it is on a new board.
-  pub last_run : (cs : List Call) → state_from M z (new_state M) cs ≡ (run M z cs).state
+  pub last_run : (cs : List Call) → contents_from M z (new_contents M) cs ≡ (run M z cs).contents
   last_run cs = state_run (new_history M) cs
 
 module _ (m : Meaning ℕ) (some all : ℕ → Bool) where
   -- The lines are those of the calls before the first refusal alone.
   pub reads_lines : (M : Payload ℕ) (z : Size) (h : History ℕ) (cs : List Call)
-      → lines m some all cs (outcomes_from M z h.state cs) ≡ lines m some all (reads M z h.state cs) (outcomes_from M z h.state (reads M z h.state cs))
-  reads_lines M z = by_calls M z (λ h cs. lines m some all cs (outcomes_from M z h.state cs) ≡ lines m some all (reads M z h.state cs) (outcomes_from M z h.state (reads M z h.state cs))) (λ h. refl)
-      (λ h c cs e ih. rw (e, e) (ap (λ (l : List MarkLine). line m some all c.unit (answer_to M z c.unit c.event (h.state.rows c.unit) ((acted M z h.state c.unit c.event).rows c.unit)) ++ l) ih))
+      → lines m some all cs (outcomes_from M z h.contents cs) ≡ lines m some all (reads M z h.contents cs) (outcomes_from M z h.contents (reads M z h.contents cs))
+  reads_lines M z = by_calls M z (λ h cs. lines m some all cs (outcomes_from M z h.contents cs) ≡ lines m some all (reads M z h.contents cs) (outcomes_from M z h.contents (reads M z h.contents cs))) (λ h. refl)
+      (λ h c cs e ih. rw (e, e) (ap (λ (l : List MarkLine). line m some all c.unit (answer_to M z c.unit c.event (h.contents.rows c.unit) ((contents_after M z h.contents c.unit c.event).rows c.unit)) ++ l) ih))
       (λ h c cs x e same. rw e refl)
 
   -- a recording breaks off before any call; or its first command makes a board, and it comes to what the rest does on it
@@ -64,7 +64,7 @@ module _ (m : Meaning ℕ) (some all : ℕ → Bool) where
   TranscriptCases place bytes =
       ((reason : Reason) × (transcript m some all place bytes ≡ empty_transcript m some all reason place))
       ⊎ ((n k : ℕ) × (rest : List ℕ) × (first_command bytes ≡ Ok (commands.Make n k, rest)) × (make_refusal n k true ≡ None)
-      × (transcript m some all place bytes ≡ transcript_on m some all n k (new_state (measured_payload m n)) (place + making_size) rest))
+      × (transcript m some all place bytes ≡ transcript_on m some all n k (new_contents (measured_payload m n)) (place + making_size) rest))
 
   -- Each recording does the one or the other.
   pub transcript_cases : (place : ℕ) (bytes : List ℕ) → TranscriptCases place bytes

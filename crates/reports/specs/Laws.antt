@@ -5,7 +5,7 @@ use Rattle.bitset.specs.Sets.{Member}
 use Rattle.history.specs.declared.refusals.Refusal.{Refusal}
 use Rattle.history.specs.Board as board
 use Rattle.history.specs.Counting.{HowMany}
-use Rattle.history.specs.Events.{Events, IsSent, IsReceived, Place}
+use Rattle.history.specs.Events.{Events, IsSent, IsReceived, Position}
 use Rattle.history.specs.declared.calls.Event.TheVariants.{Mark}
 use Rattle.history.specs.Flows.{Longest, word}
 use Rattle.history.specs.HappenedBefore.{Immediate}
@@ -15,9 +15,9 @@ use Rattle.history.specs.declared.Call.{Call}
 use Rattle.history.specs.Limits.{most_marks}
 use Rattle.causality.specs.Boards.{make_refusal}
 use Rattle.measures.specs.Acceptance.{state_after, accepts}
-use Rattle.measures.specs.Formats.{labels_in, entries_in, padded}
+use Rattle.measures.specs.Formats.{labels_in, entries_in, with_zeros}
 use Rattle.measures.specs.Laws.{TellsOfFlows}
-use Rattle.measures.specs.Relabellings.{translated}
+use Rattle.measures.specs.Relabellings.{translation}
 use Rattle.measures.specs.Words.{Word}
 use Rattle.measures.specs.Worths.{measured_payload, measured_size}
 use Rattle.reports.specs.declared.commands.Command.{Command}
@@ -37,7 +37,7 @@ size_in b = measured_size (judge_in b) (transcript_in b).units (transcript_in b)
 
 -- a word of the recording's labels in the pattern's
 abbrev pub in_pattern : List ℕ → Word → Word
-in_pattern b w = translated (padded 64 (entries_in b (relabelling_at b))) (labels_in b) w
+in_pattern b w = translation (with_zeros 64 (entries_in b (relabelling_at b))) (labels_in b) w
 
 -- how many of the calls are marks
 abbrev pub marks_among : List Call → ℕ
@@ -51,7 +51,7 @@ pub record Tells (b : List ℕ) (ev : Events) (u i : ℕ) (line : MarkLine) : Ty
   pub unit_is : line.unit ≡ u
   pub clock_is : line.clock ≡ marks ev u (suc i)
   pub predecessors_are : (v : ℕ) → Member v line.predecessors ↔ ((j : ℕ) × Immediate ev v j u i)
-  pub states_are : (q : ℕ) → Member q line.states ↔ ((f : List Place) × Longest ev u i f × (state_after b (in_pattern b (word ev f)) ≡ q))
+  pub states_are : (q : ℕ) → Member q line.states ↔ ((f : List Position) × Longest ev u i f × (state_after b (in_pattern b (word ev f)) ≡ q))
   pub verdict : TellsOfFlows (λ w. IsTrue (accepts b (in_pattern b w))) line.some line.all ev u i
 
 -- Two inputs have the same front: the same bytes before their recordings, which are the pattern and the relabelling.
@@ -83,7 +83,7 @@ RefusedCall b t place e =
     let M = measured_payload (judge_in b) t.units in
     let z = measured_size (judge_in b) t.units t.messages most_marks in
     (c : Call) × (cs : List Call) × (calls_in (drop place b) ≡ c ∷ cs)
-    × (board.refusal M z (board.run M z t.calls).state c.unit c.event ≡ Some e)
+    × (board.refusal M z (board.run M z t.calls).contents c.unit c.event ≡ Some e)
 
 -- bytes that are no whole command, where the recording begins or after its calls
 abbrev pub Malformed : List ℕ → ℕ → Reason → Type 0

@@ -1,7 +1,7 @@
 -- What a recording comes to, under a judge of sets of states.
 use Rattle.std.specs.Prelude.{ℕ, ◌+◌, ◌*◌, Bool, true, List, [], ◌∷◌, ◌++◌, length, drop, Ok, Err, Result, Some, None, Option}
 use Rattle.history.specs.declared.refusals.Refusal.{Refusal}
-use Rattle.history.specs.Board.{State, new_state, outcomes_from, state_from}
+use Rattle.history.specs.Board.{Contents, new_contents, outcomes_from, contents_from}
 use Rattle.history.specs.declared.calls.Answer.{Answer}
 use Rattle.history.specs.declared.calls.Answer.TheVariants.{Sent, Received, Marked as marked}
 use Rattle.history.specs.declared.calls.Marked.{Marked}
@@ -72,11 +72,11 @@ module _ (m : Meaning ℕ) (some all : ℕ → Bool) where
   lines (c ∷ cs) (Err e ∷ xs) = []
 
   -- What the calls that some bytes begin with come to on a board of n units and k messages in a state; they stand at a byte of the input.
-  abbrev pub transcript_on : ℕ → ℕ → State ℕ → ℕ → List ℕ → Transcript
+  abbrev pub transcript_on : ℕ → ℕ → Contents ℕ → ℕ → List ℕ → Transcript
   transcript_on n k s place bytes =
       let cs = calls_in bytes in
       let xs = outcomes_from (measured_payload m n) (measured_size m n k most_marks) s cs in
-      let left = left_among (state_from (measured_payload m n) (measured_size m n k most_marks) s cs).posts k in
+      let left = left_among (contents_from (measured_payload m n) (measured_size m n k most_marks) s cs).posts k in
       record {
         units = n;
         messages = k;
@@ -92,7 +92,7 @@ module _ (m : Meaning ℕ) (some all : ℕ → Bool) where
   -- a recording by its making, which is refused for its size, or makes the board to which the rest is handed
   abbrev pub transcript_of_board : ℕ → ℕ → ℕ → List ℕ → Option Refusal → Transcript
   transcript_of_board n k place bytes (Some e) = empty_transcript (Refused e) place
-  transcript_of_board n k place bytes None = transcript_on n k (new_state (measured_payload m n)) (place + making_size) bytes
+  transcript_of_board n k place bytes None = transcript_on n k (new_contents (measured_payload m n)) (place + making_size) bytes
 
   -- a recording by its first command, which begins at a byte of the input
   abbrev pub transcript_from : ℕ → Result (Command × List ℕ) Reason → Transcript

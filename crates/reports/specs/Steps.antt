@@ -3,7 +3,7 @@ use Rattle.std.specs.Prelude.{◌≡◌, ℕ, Bool, List, ◌++◌, Ok, Err, Res
 use Rattle.history.specs.declared.calls.Call.{Call}
 use Rattle.history.specs.declared.refusals.Refusal.{Refusal}
 use Rattle.measures.specs.declared.judges.JudgedValue.{JudgedValue}
-use Rattle.history.specs.Board.{State}
+use Rattle.history.specs.Board.{Contents}
 use Rattle.history.specs.declared.calls.Answer.{Answer}
 use Rattle.history.specs.declared.calls.Answer.TheVariants.{Sent, Received, Marked}
 use Rattle.causality.specs.Boards.{Memory, Obeys, Setup, Shows, left_among}
@@ -55,10 +55,10 @@ Wrote old new t result = (new ≡ old ++ mark_lines t.lines) × (result ≡ t.en
 abbrev pub WroteOn : {J : Type 0} → (J → Meaning ℕ) → (J → ℕ → Bool) → (J → ℕ → Bool) → J → ℕ → ℕ → Memory ℕ
     → ℕ → List ℕ → List ℕ → List ℕ → Result ℕ RecordingFault → Type 0
 WroteOn meaning some all judge n k memory from bytes old new result =
-    (s : State ℕ) → Shows (meaning judge).start n k memory s
+    (s : Contents ℕ) → Shows (meaning judge).start n k memory s
     → Wrote old new (transcript_on (meaning judge) (some judge) (all judge) n k s from bytes) result
 
 -- Of each state that the memory of such a board shows, a recording ends so whose end stands at a byte of the input, with these bytes after it.
 abbrev pub EndedOn : {J : Type 0} → (J → Meaning ℕ) → J → ℕ → ℕ → Memory ℕ → ℕ → List ℕ → Result ℕ RecordingFault → Type 0
 EndedOn meaning judge n k memory place after result =
-    (s : State ℕ) → Shows (meaning judge).start n k memory s → result ≡ end_after_calls (left_among s.posts k) place (Ok (End, after))
+    (s : Contents ℕ) → Shows (meaning judge).start n k memory s → result ≡ end_after_calls (left_among s.posts k) place (Ok (End, after))

@@ -5,7 +5,7 @@ use Rattle.std.proofs.lemmas.List.Folds.{Any-from_list_any, list_any-from_Any}
 use Rattle.std.specs.Prelude.{⊤}
 use Rattle.std.specs.List.{list_any}
 use Rattle.measures.specs.Judges.{Judges}
-use Rattle.measures.specs.Measures.{carried, carried_from}
+use Rattle.measures.specs.Measures.{word_value, word_value_from}
 use Rattle.measures.specs.Words.{Word}
 use Rattle.waypoint.specs.declared.Passages.{Passages}
 use Rattle.waypoint.specs.Waypoints.{passages, waypoint}
@@ -32,15 +32,15 @@ module _ (n label : ℕ) where
 
   -- The waypoint, once passed, stays so; a word without it leaves the value.
   carried_passages : (v : Passages) (w : Word)
-      → carried_from (waypoint n label) v w ≡ (if has w then yes else v)
+      → word_value_from (waypoint n label) v w ≡ (if has w then yes else v)
   carried_passages v [] = refl
   carried_passages v (l ∷ w) =
       by_test (l == label) (has w) (carried_passages v w) (carried_passages yes w)
     where
       by_test : (here later : Bool)
-          → carried_from (waypoint n label) v w ≡ (if later then yes else v)
-          → carried_from (waypoint n label) yes w ≡ (if later then yes else yes)
-          → carried_from (waypoint n label) (if here then yes else v) w ≡ (if here || later then yes else v)
+          → word_value_from (waypoint n label) v w ≡ (if later then yes else v)
+          → word_value_from (waypoint n label) yes w ≡ (if later then yes else yes)
+          → word_value_from (waypoint n label) (if here then yes else v) w ≡ (if here || later then yes else v)
       by_test true true kept passed = passed
       by_test true false kept passed = passed
       by_test false later kept passed = kept
@@ -60,8 +60,8 @@ module _ (n label : ℕ) where
       answer_is true = passed
       answer_is false = not_yet
 
-      carried_answer : (w : Word) → answer (carried (waypoint n label) w) ≡ has w
+      carried_answer : (w : Word) → answer (word_value (waypoint n label) w) ≡ has w
       carried_answer w = ap answer (carried_passages (passages false false) w) ∙ answer_is (has w)
 
-      decided : (w : Word) → IsTrue (answer (carried (waypoint n label) w)) ↔ Contains w label
+      decided : (w : Word) → IsTrue (answer (word_value (waypoint n label) w)) ↔ Contains w label
       decided w = rw (carried_answer w) (search (rules, contains_from_has, has_from_contains))

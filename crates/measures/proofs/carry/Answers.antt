@@ -1,4 +1,4 @@
-use Rattle.measures.proofs.Valuing.{law_of_runs}
+use Rattle.measures.proofs.ValueFacts.{law_of_runs}
 use Rattle.measures.proofs.carry.Goals as goal
 
 pub returns-clause-runs : goal.returns-clause-runs

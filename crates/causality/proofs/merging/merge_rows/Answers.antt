@@ -1,5 +1,5 @@
 use Rattle.std.proofs.Common.{arith}
-use Rattle.causality.proofs.Merges.{clocks_more, flags_more, values_more}
+use Rattle.causality.proofs.MergeFacts.{clocks_more, flags_more, values_more}
 use Rattle.causality.proofs.merging.merge_rows.Goals as goal
 
 pub loop-j-preserved : goal.loop-j-preserved

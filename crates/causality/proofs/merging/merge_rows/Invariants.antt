@@ -1,4 +1,4 @@
-use Rattle.causality.proofs.Merges.{Merged}
+use Rattle.causality.proofs.MergeFacts.{Merged}
 use Rattle.causality.proofs.merging.merge_rows.Given as goal
 
 -- the first j cells of row `to` are merged

@@ -1,5 +1,5 @@
 use Rattle.std.proofs.Common.{rules}
-use Rattle.causality.proofs.Comparing.{orders_marks_by}
+use Rattle.causality.proofs.ComparisonFacts.{orders_marks_by}
 use Rattle.causality.proofs.stamps.compare.Goals as goal
 
 pub returns-then-not-are_stamps-clause-order : goal.returns-then-not-are_stamps-clause-order

@@ -1,4 +1,4 @@
-use Rattle.measures.proofs.Judging.{marks_judged}
+use Rattle.measures.proofs.JudgeFacts.{marks_judged}
 use Rattle.measures.proofs.judges.verdicts.Goals as goal
 
 pub returns-clause-flows : goal.returns-clause-flows

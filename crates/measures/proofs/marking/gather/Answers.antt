@@ -1,6 +1,6 @@
 use Rattle.std.proofs.Common.{rules}
 use Rattle.bitset.proofs.Promises.{less_without}
-use Rattle.measures.proofs.Members.{so_far_more, so_far_all}
+use Rattle.measures.proofs.MemberFacts.{so_far_more, so_far_all}
 use Rattle.measures.proofs.marking.gather.Goals as goal
 
 pub loop-j-smaller : goal.loop-j-smaller

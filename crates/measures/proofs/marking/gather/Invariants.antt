@@ -1,4 +1,4 @@
-use Rattle.measures.proofs.Members.{SoFar}
+use Rattle.measures.proofs.MemberFacts.{SoFar}
 use Rattle.measures.proofs.marking.gather.Given as goal
 
 -- the values of the members so far

@@ -1,5 +1,5 @@
 use Rattle.std.proofs.Common.{◌∙◌, rules}
-use Rattle.measures.proofs.Worthing.{gathered_read}
+use Rattle.measures.proofs.MarkValueFacts.{gathered_read}
 use Rattle.measures.proofs.marking.mark_value.Goals as goal
 
 pub returns : goal.returns

@@ -5,7 +5,7 @@ use Rattle.history.specs.declared.refusals.Refusal.TheVariants.{MemoryTooShort}
 use Rattle.causality.specs.Boards.{memory, payload_of, setup_of}
 use Rattle.measures.specs.Boards.{Played}
 use Rattle.measures.proofs.BoardLaw.{played_more}
-use Rattle.measures.proofs.Playing.{beyond_twice, loans_twice, set_below, room_kept}
+use Rattle.measures.proofs.PlayFacts.{beyond_twice, loans_twice, set_below, room_kept}
 use Rattle.measures.proofs.replays.play.Goals as goal
 
 pub loop-i-preserved : goal.loop-i-preserved

@@ -3,7 +3,7 @@ use Rattle.causality.specs.Boards.{Makes, has_room, make_refusal, memory}
 use Rattle.measures.specs.Replays.{Replayed}
 use Rattle.measures.specs.Worths.{measured_payload}
 use Rattle.measures.proofs.BoardLaw.{law_of_boards}
-use Rattle.measures.proofs.Playing.{beyond_twice}
+use Rattle.measures.proofs.PlayFacts.{beyond_twice}
 use Rattle.measures.proofs.replays.replay.Goals as goal
 
 pub returns-in_err-board-clause-law : goal.returns-in_err-board-clause-law

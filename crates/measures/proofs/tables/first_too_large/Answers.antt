@@ -1,5 +1,5 @@
 use Rattle.std.proofs.Common.{arith}
-use Rattle.measures.proofs.Reading.{first_over_is}
+use Rattle.measures.proofs.TableFacts.{first_over_is}
 use Rattle.measures.proofs.tables.first_too_large.Goals as goal
 
 pub returns-then-entry-bound : goal.returns-then-entry-bound

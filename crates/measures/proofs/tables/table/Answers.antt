@@ -1,5 +1,5 @@
 use Rattle.std.proofs.Common.{◌≡◌, length, rules, sym, ◌∙◌, ap, arith, length-take, length-drop}
-use Rattle.measures.proofs.Reading.{below_bound}
+use Rattle.measures.proofs.TableFacts.{below_bound}
 use Rattle.measures.proofs.tables.table.Goals as goal
 
 pub returns-in-None : goal.returns-in-None

@@ -1,5 +1,5 @@
 use Rattle.std.proofs.Common.{◌≡◌, ℕ, ◌+◌, ◌-◌, ◌*◌, ◌≤◌, true, length}
-use Rattle.history.specs.Board.{State}
+use Rattle.history.specs.Board.{Contents}
 use Rattle.causality.specs.Boards.{Shows, has_room, memory}
 use Rattle.reports.specs.declared.lines.TheConstants.{TEXT_PER_BYTE}
 use Rattle.reports.proofs.StepFacts.{Reached}
@@ -15,7 +15,7 @@ invariant-loop-command g l =
     let k = l.board.messages in
     record {
       room : has_room n k (memory l.clocks l.flags l.values l.posts) ≡ true;
-      reached : (s : State ℕ) → Shows m.start n k (memory l.initial.clocks l.initial.flags l.initial.values l.initial.posts) s
+      reached : (s : Contents ℕ) → Shows m.start n k (memory l.initial.clocks l.initial.flags l.initial.values l.initial.posts) s
           → Reached m some all n k s l.from l.bytes l.initial.page.text (memory l.clocks l.flags l.values l.posts) l.page.text (l.from + (length l.bytes - length l.rest)) l.rest;
       places : length l.rest ≤ length l.bytes;
       long : length l.page.text + TEXT_PER_BYTE * length l.rest ≤ length l.initial.page.text + TEXT_PER_BYTE * length l.bytes;

@@ -3,7 +3,7 @@ use Rattle.std.proofs.lemmas.List.{length-replicate}
 use Rattle.history.specs.Messages.{unsent}
 use Rattle.history.specs.declared.refusals.Refusal.{Refusal}
 use Rattle.history.specs.Limits.{most_messages}
-use Rattle.history.specs.Board.{new_state}
+use Rattle.history.specs.Board.{new_contents}
 use Rattle.causality.specs.Boards.{make_refusal, has_room, memory}
 use Rattle.measures.specs.Worths.{measured_payload}
 use Rattle.reports.specs.Commands.{making_size}
@@ -50,7 +50,7 @@ returns-clause-tells g c =
     board_made (g.J.Measure.meaning a.judge) (g.J.Judge.some_of a.judge) (g.J.Judge.all_of a.judge) a.place a.bytes.now rest n k first (sym by_size ∙ allowed) old new c.follow.result
     (made_with g.J.Measure.meaning g.J.Judge.some_of g.J.Judge.all_of a.judge board.payload.measure (ap (λ p. p.measure) is.payload_is) n board.units is.units_are k board.messages is.messages_are
     (memory c.make-made.new.clocks c.make-made.new.flags c.make-made.new.values c.make-made.new.posts) old new (a.place + making_size) rest c.follow.result c.follow.ensures.tells
-    (new_state (measured_payload (g.J.Measure.meaning a.judge) n)) (c.make-made.ensures.begins.makes.state allowed))
+    (new_contents (measured_payload (g.J.Measure.meaning a.judge) n)) (c.make-made.ensures.begins.makes.contents allowed))
 
 pub returns-clause-long : goal.returns-clause-long
 returns-clause-long g c =

@@ -2,7 +2,7 @@ use Rattle.std.proofs.Common.{rules, ◌≡◌, Err, ap, sym, ◌∙◌}
 use Rattle.history.specs.declared.calls.Answer.TheVariants.{Sent, Received, Marked}
 use Rattle.history.specs.Runs.{call}
 use Rattle.causality.specs.Calls.{result_as}
-use Rattle.causality.proofs.Following.{obeys_same}
+use Rattle.causality.proofs.FollowFacts.{obeys_same}
 use Rattle.causality.proofs.boards.Board.hand.Goals as goal
 
 pub returns-in_err-own-in-Send : goal.returns-in_err-own-in-Send

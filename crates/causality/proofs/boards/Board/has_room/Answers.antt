@@ -1,4 +1,4 @@
-use Rattle.causality.proofs.Leaving.{each_shows}
+use Rattle.causality.proofs.LeftFacts.{each_shows}
 use Rattle.causality.proofs.boards.Board.has_room.Goals as goal
 
 pub returns-then-has_all_rows-3-clause-shows : goal.returns-then-has_all_rows-3-clause-shows

@@ -1,8 +1,8 @@
 use Rattle.std.proofs.Common.{◌≡◌, sym, ◌+◌, ◌*◌, false, true, ap, ◌∙◌, subst, arith, rules}
 use Rattle.history.specs.Messages.{unsent}
 use Rattle.causality.specs.Boards.{has_room, memory}
-use Rattle.causality.proofs.Calling.{ready}
-use Rattle.causality.proofs.Making.{Filled, made, make_taken, filled_rows, filled_front}
+use Rattle.causality.proofs.RoomFacts.{ready}
+use Rattle.causality.proofs.MakeFacts.{Filled, made, make_taken, filled_rows, filled_front}
 use Rattle.causality.proofs.boards.Board.make.Goals as goal
 
 pub returns-clause-begins : goal.returns-clause-begins

@@ -2,9 +2,9 @@ use Rattle.std.proofs.Common.{◌≡◌, ℕ, take, drop, subst, sym, ◌+◌, �
 use Rattle.grid.proofs.Promises.{cell_set}
 use Rattle.causality.specs.Boards.{memory}
 use Rattle.causality.specs.Payloads.{Reads}
-use Rattle.causality.proofs.Calling.{room_row}
-use Rattle.causality.proofs.Marks.{noted, flagged_row}
-use Rattle.causality.proofs.Writing.{filled_then_set, reset_row_is}
+use Rattle.causality.proofs.RoomFacts.{room_row}
+use Rattle.causality.proofs.MarkFacts.{noted, flagged_row}
+use Rattle.causality.proofs.GridFacts.{filled_then_set, reset_row_is}
 use Rattle.causality.proofs.boards.Board.mark.Goals as goal
 
 pub returns : goal.returns

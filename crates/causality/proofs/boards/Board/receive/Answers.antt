@@ -1,7 +1,7 @@
 use Rattle.std.proofs.Common.{◌+◌, false, refl, arith, rules}
 use Rattle.causality.specs.Boards.{memory}
-use Rattle.causality.proofs.Receiving.{received, rows}
-use Rattle.causality.proofs.Writing.{row_merged, rows_within}
+use Rattle.causality.proofs.ReceiptFacts.{received, rows}
+use Rattle.causality.proofs.GridFacts.{row_merged, rows_within}
 use Rattle.causality.proofs.boards.Board.receive.Goals as goal
 
 pub merge_rows-requires-clause-clocks : goal.merge_rows-requires-clause-clocks

@@ -1,7 +1,7 @@
 use Rattle.std.proofs.Common.{◌+◌, false, refl, arith, rules}
 use Rattle.causality.specs.Boards.{memory}
-use Rattle.causality.proofs.Sending.{sent}
-use Rattle.causality.proofs.Writing.{copied}
+use Rattle.causality.proofs.SendFacts.{sent}
+use Rattle.causality.proofs.GridFacts.{copied}
 use Rattle.causality.proofs.boards.Board.send.Goals as goal
 
 pub returns : goal.returns

@@ -2,7 +2,7 @@ use Rattle.std.proofs.Common.{◌≡◌, ◌<◌, ◌^◌, ◌*◌, ◌%◌, ari
 use Rattle.std.proofs.lemmas.Bool.{ltb-true}
 use Rattle.bitset.proofs.Promises.{member_kept, less_without}
 use Rattle.measures.specs.Automata.{next}
-use Rattle.measures.proofs.Images.{image_masked, image_moved, image_found, image_is}
+use Rattle.measures.proofs.ImageFacts.{image_masked, image_moved, image_found, image_is}
 use Rattle.measures.proofs.patterns.Pattern.image.Goals as goal
 
 pub loop-q-init : goal.loop-q-init

@@ -1,8 +1,8 @@
 use Rattle.std.proofs.Common.{ℕ, ◌*◌, ◌<◌, get_or, arith}
 use Rattle.std.proofs.lemmas.Grind.{common_steps}
 use Rattle.measures.specs.Formats.{PatternOf}
-use Rattle.measures.proofs.Reaching.{marks_reach}
-use Rattle.measures.proofs.Recognizing.{padded_complete, recognizes}
+use Rattle.measures.proofs.ReachFacts.{marks_reach}
+use Rattle.measures.proofs.PatternFacts.{padded_complete, recognizes}
 use Rattle.measures.proofs.patterns.Pattern.read.Goals as goal
 
 -- what was read has the parts that the bytes give, and a complete table

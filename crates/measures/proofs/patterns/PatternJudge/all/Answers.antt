@@ -1,6 +1,6 @@
 use Rattle.std.proofs.Common.{ℕ, ◌&&◌}
 use Rattle.bitset.specs.Sets.{within}
-use Rattle.measures.proofs.Accepting.{shows_accepted, within_or, within_one}
+use Rattle.measures.proofs.AcceptanceFacts.{shows_accepted, within_or, within_one}
 use Rattle.measures.proofs.patterns.PatternJudge.all.Goals as goal
 
 pub returns-clause-judges : goal.returns-clause-judges

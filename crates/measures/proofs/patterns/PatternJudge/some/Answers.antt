@@ -1,6 +1,6 @@
 use Rattle.std.proofs.Common.{ℕ, ◌||◌}
 use Rattle.bitset.specs.Sets.{meets}
-use Rattle.measures.proofs.Accepting.{shows_accepted, meets_or, meets_one}
+use Rattle.measures.proofs.AcceptanceFacts.{shows_accepted, meets_or, meets_one}
 use Rattle.measures.proofs.patterns.PatternJudge.some.Goals as goal
 
 pub returns-clause-judges : goal.returns-clause-judges

@@ -1,4 +1,4 @@
-use Rattle.measures.proofs.Translating.{translated_judges}
+use Rattle.measures.proofs.TranslationFacts.{translated_judges}
 use Rattle.measures.proofs.relabellings.RelabellingJudge.some.Goals as goal
 
 pub returns-clause-judges : goal.returns-clause-judges

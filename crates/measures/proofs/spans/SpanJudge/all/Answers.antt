@@ -1,6 +1,6 @@
 use Rattle.std.proofs.Common.{◌&&◌, refl}
 use Rattle.measures.specs.declared.spans.Lengths.{Lengths}
-use Rattle.measures.proofs.Ranges.{shows_within, longest_joins}
+use Rattle.measures.proofs.SpanFacts.{shows_within, longest_joins}
 use Rattle.measures.proofs.spans.SpanJudge.all.Goals as goal
 
 pub returns-clause-judges : goal.returns-clause-judges
