@@ -1,5 +1,5 @@
-// Sets of the numbers 0 to 63, each one word: number q is in the set exactly when bit q of the word is 1.
-// The states of patterns and the units of predecessors are such sets. Stands on nothing here.
+//! Sets of the numbers 0 to 63, each one word: number q is in the set exactly when bit q of the word is 1.
+//! The states of patterns and the units of predecessors are such sets. Stands on nothing here.
 #![tactic(auto)]
 
 ghost use Rattle.std.specs.Prelude.{◌≡◌, ℕ, ◌+◌, ◌^◌, ◌<◌, ◌≤◌, ◌&&◌, ◌||◌, false, if◌then◌else◌, length, replicate, ◌↔◌, IsTrue, MatchOption, bit_or, nat_lt, slice_index_or};

@@ -1,5 +1,5 @@
 //! The stamps of marks: for each unit, how many of its marks are the mark or before it.
-ghost use Rattle.std.specs.Prelude.{◌≡◌, ◌<◌, ◌&&◌, length, if◌then◌else◌, ◌==◌, nat_le, slice_index};
+ghost use Rattle.std.specs.Prelude.{◌≡◌, ℕ, ◌<◌, ◌&&◌, length, if◌then◌else◌, ◌==◌, nat_le, slice_index};
 ghost use Rattle.history.specs.declared.precedence.Precedence.TheVariants.{Same, Precedes, Follows, Concurrent};
 ghost use Rattle.history.specs.Precedence.{compare_answer, stamp_order};
 ghost use Rattle.history.specs.Limits.{most_units};
@@ -19,8 +19,12 @@ pub struct Stamp<'a> {
 /// or not from 1 to 16 long (12), and then a unit at or above that length (4). On the stamps of two marks of a run the answer is their causal
 /// order (`order`).
 pub fn compare(p: Stamp<'_>, q: Stamp<'_>) -> Result<Precedence, Refusal>
-    ensures answer { result ≡ compare_answer p.entry.clocks.now q.entry.clocks.now p.entry.unit q.entry.unit }
-    ensures order { OrdersMarks p.entry.clocks.now q.entry.clocks.now p.entry.unit q.entry.unit result }
+    ensures answer {
+        result ≡ compare_answer p.entry.clocks.now q.entry.clocks.now p.entry.unit q.entry.unit
+    }
+    ensures order {
+        OrdersMarks p.entry.clocks.now q.entry.clocks.now p.entry.unit q.entry.unit result
+    }
 {
     if !are_stamps(p.clocks.len(), q.clocks.len()) {
         return Err(Refusal::StampLength);
@@ -36,7 +40,11 @@ fn order_of(p: Stamp<'_>, q: Stamp<'_>) -> Precedence
     requires lengths { length p.clocks.now ≡ length q.clocks.now }
     requires first { p.unit < length p.clocks.now }
     requires second { q.unit < length p.clocks.now }
-    ensures { result ≡ stamp_order (λ w. slice_index p.entry.clocks.now w) (λ w. slice_index q.entry.clocks.now w) p.entry.unit q.entry.unit }
+    ensures {
+        let first = λ (w : ℕ). slice_index p.entry.clocks.now w in
+        let second = λ (w : ℕ). slice_index q.entry.clocks.now w in
+        result ≡ stamp_order first second p.entry.unit q.entry.unit
+    }
 {
     let same = p.unit == q.unit && p.clocks[p.unit] == q.clocks[p.unit];
     let precedes = p.clocks[p.unit] <= q.clocks[p.unit];
@@ -53,7 +61,10 @@ fn are_stamps(p: usize, q: usize) -> bool
 
 // The first answer whose test is yes.
 fn first_of(same: bool, precedes: bool, follows: bool) -> Precedence
-    ensures { result ≡ (if same then Same else (if precedes then Precedes else (if follows then Follows else Concurrent))) }
+    ensures {
+        result ≡ (if same then Same
+            else (if precedes then Precedes else (if follows then Follows else Concurrent)))
+    }
 {
     if same {
         Precedence::Same

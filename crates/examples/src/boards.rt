@@ -1,5 +1,5 @@
-// Boards that follow a recording, with and without measures: what each call answers, what is refused and by which number, and what a
-// refusal leaves as it was.
+//! Boards that follow a recording, with and without measures: what each call answers, what is refused and by which number, and what a
+//! refusal leaves as it was.
 use super::reading::PATTERN;
 use causality::{Bare, Board, Payload};
 use grid::Grid;

@@ -1,4 +1,4 @@
-// Messages that move on, stamps that are compared, rows that are copied and merged, and what marks are worth.
+//! Messages that move on, stamps that are compared, rows that are copied and merged, and what marks are worth.
 use super::reading::PATTERN;
 use bitset::take_positions;
 use causality::{Bare, Board, Stamp, compare, merge_cell};

@@ -1,5 +1,5 @@
-// Examples: each refusal of boards, comparisons, readers and makers with its number and place, worked values of every measure, worked rows and stamps, all of them run; and worked
-// runs, proved from the rules. Stands on `bitset`, `grid`, `history`, `causality` and `measures`.
+//! Tests: each refusal of boards, comparisons, readers and makers with its number and place, worked values of every measure, worked rows and stamps,
+//! all of them run; and worked runs, proved from the rules. Stands on `bitset`, `grid`, `text`, `history`, `causality` and `measures`.
 #![tactic(auto)]
 
 #[cfg(test)]

@@ -1,4 +1,4 @@
-// Worked values of the flow count, the span, the pattern and a relabelling, and what their makers refuse.
+//! Worked values of the flow count, the span, the pattern and a relabelling, and what their makers refuse.
 use super::reading::PATTERN;
 use measures::{FlowCount, Judge, Lengths, Measure, Pattern, Refusal, Relabelling, Span, carry};
 use std::test::Fail;

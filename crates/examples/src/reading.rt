@@ -1,4 +1,4 @@
-// What the readers of patterns and relabellings refuse, with the place, and what they take.
+//! What the readers of patterns and relabellings refuse, with the place, and what they take.
 use measures::{Fault, Pattern, Relabelling};
 use text::Cursor;
 

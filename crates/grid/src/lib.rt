@@ -1,5 +1,5 @@
-// Rows of cells, one after another, in memory that the caller lends: row r begins at cell r * width.
-// One grid type serves clocks, flags and values of every kind. Stands on nothing here.
+//! Rows of cells, one after another, in memory that the caller lends: row r begins at cell r * width.
+//! One grid type serves clocks, flags and values of every kind. Stands on nothing here.
 #![tactic(auto)]
 
 ghost use Rattle.std.specs.Prelude.{◌≡◌, ◌+◌, ◌*◌, ◌≤◌, length, replicate, IsTrue, false, MatchOption, slice_index_or, slice_set};

@@ -3,6 +3,9 @@
 /// A number of marks of one unit. Its largest value is the most marks that a unit can make.
 pub type Clock = u16;
 
+/// A letter of a word: what the word says of one mark, which is the mark's label.
+pub type Letter = u8;
+
 /// What a unit does: it sends a message, receives one, or makes a mark with a label.
 #[derive(Clone, Copy, PartialEq, Eq, Debug)]
 pub enum Event {

@@ -1,6 +1,6 @@
-// What the units of a handset did and in which causal order, the rules by which a board follows it, and the law over runs. Nearly all of it is in
-// specs/ and proofs/; in code stand only the types that the rules name: the states of a message, the refusals and the orders of two marks.
-// Stands on `bitset`.
+//! What the units of a handset did and in which causal order, the rules by which a board follows it, and the law over runs. Nearly all of it is in
+//! specs/ and proofs/; in code stand only the types that the rules name: the states of a message, the refusals and the orders of two marks.
+//! Stands on `bitset`.
 #![tactic(auto)]
 
 pub mod calls;
@@ -10,7 +10,7 @@ pub mod messages;
 pub mod precedence;
 pub mod refusals;
 
-pub use calls::{Answer, Call, Clock, Event, Marked};
+pub use calls::{Answer, Call, Clock, Event, Letter, Marked};
 pub use cells::Cell;
 pub use messages::{Handling, Post};
 pub use precedence::Precedence;

@@ -1,4 +1,4 @@
-// What becomes of a message.
+//! What becomes of a message.
 ghost use Rattle.std.specs.Prelude.{◌≡◌};
 ghost use Rattle.history.specs.Messages.{post_number, handled_post, is_on_its_way};
 
@@ -15,7 +15,7 @@ pub enum Post {
     Delivered = 2,
 }
 
-// The number of a state.
+/// The number of a state.
 impl From<Post> for u8 {
     ghost from_gives = { λ post n. n ≡ post_number post };
 

@@ -1,10 +1,10 @@
-// Why a board or a comparison refuses a call.
+//! Why a board or a comparison refuses a call.
 ghost use Rattle.std.specs.Prelude.{◌≡◌};
 ghost use Rattle.history.specs.Refusals.{number};
 
 use thiserror::Error;
 
-// The refusals, each with its number.
+/// The refusals of boards and of comparisons, each with its number.
 #[derive(Clone, Copy, PartialEq, Eq, Debug, Error)]
 pub enum Refusal {
     #[error("a board cannot have so many units, or none")]
@@ -31,7 +31,7 @@ pub enum Refusal {
     StampLength = 12,
 }
 
-// The number of a refusal.
+/// The number of a refusal.
 impl From<Refusal> for u8 {
     ghost from_gives = { λ refusal n. n ≡ number refusal };
 

@@ -1,7 +1,10 @@
 -- Relabellings.
-use Rattle.std.specs.Prelude.{ℕ, if◌then◌else◌, List, map, nat_lt, slice_index}
-use Rattle.measures.specs.Words.{Letter, Word}
+use Rattle.std.specs.Prelude.{◌≡◌, ℕ, ◌+◌, if◌then◌else◌, List, map, nat_lt, slice_index}
+use Rattle.measures.specs.declared.relabellings.Relabelling.{Relabelling}
+use Rattle.measures.specs.Formats.{entries_in, relabelling_labels_in, with_zeros}
+use Rattle.measures.specs.Limits.{most_labels}
 use Rattle.measures.specs.Measures.{Meaning}
+use Rattle.measures.specs.Words.{Letter, Word}
 
 -- the inner label of l: its entry, or 0 where that is none of the n inner labels
 abbrev pub inner_label : List ℕ → ℕ → Letter → Letter
@@ -19,3 +22,26 @@ relabelling entries count m = record {
   step = λ v l. if nat_lt l count then m.step v (inner_label entries m.labels l) else v;
   join = m.join;
 }
+
+module _ {M V : Type 0} where
+  -- the measure that it relabels
+  abbrev pub inner_of : Relabelling M V → M
+  inner_of r = r.inner
+
+  -- the relabelling as a measure, by what the inner one means
+  abbrev pub relabelling_meaning : (M → Meaning V) → Relabelling M V → Meaning V
+  relabelling_meaning meaning r = relabelling r.table.entries r.table.count.number (meaning r.inner)
+
+  -- a word in the labels of the inner measure
+  abbrev pub inner_word : (M → Meaning V) → Relabelling M V → Word → Word
+  inner_word meaning r w = translation r.table.entries (meaning r.inner).labels w
+
+  -- the number of bytes that it was read from: the tag, the count, and an entry for each label
+  abbrev pub relabelling_size : Relabelling M V → ℕ
+  relabelling_size r = 2 + r.table.count.number
+
+  -- The parts of a relabelling are the inner measure that it was made with, and those that the bytes b give from the byte `at` on.
+  pub record IsRelabellingOf (b : List ℕ) (at : ℕ) (inner : M) (r : Relabelling M V) : Type 0 where
+    pub labels_are : r.table.count.number ≡ relabelling_labels_in b at
+    pub entries_are : r.table.entries ≡ with_zeros most_labels (entries_in b at)
+    pub inner_is : r.inner ≡ inner

@@ -6,6 +6,7 @@ ghost use Rattle.measures.specs.Refusals.{flow_count_refusal};
 use super::Measure;
 use super::refusals::Refusal;
 use super::sizes::Count;
+use history::Letter;
 
 /// A flow count over some labels: the number of flows, up to 4,294,967,295.
 #[derive(Clone, Copy)]
@@ -48,7 +49,7 @@ impl Measure for FlowCount {
         1
     }
 
-    fn step(&self, v: u32, _l: u8) -> u32 {
+    fn step(&self, v: u32, _l: Letter) -> u32 {
         v
     }
 

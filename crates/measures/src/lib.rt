@@ -1,7 +1,8 @@
-// Measures of the flows that end at a mark, judges of their words, and the board under a measure, with the law of what it answers.
-// A unit is one process of a handset; a mark is an event that it shows, with a label;
-// a flow is a chain of marks, each an immediate predecessor of the next, and its word is the list of their labels.
-// Stands on `causality`, whose boards it extends by values, and on what is below it.
+//! Measures of the flows that end at a mark, judges of their words, and boards under a measure, with the law of what they answer.
+//!
+//! A unit is one process of a handset; a mark is an event that it shows, with a label; a flow is a chain of marks, each an immediate predecessor of
+//! the next, and its word is the list of their letters. Stands on `causality`, whose boards carry a measure's values here, on `text`, and on what is
+//! below them.
 #![tactic(auto)]
 
 ghost use Rattle.std.specs.Prelude.{◌≡◌};
@@ -30,8 +31,10 @@ pub use relabellings::Relabelling;
 pub use replays::replay;
 pub use spans::{Lengths, Span};
 
-// A measure: a number of labels, a start value, a step from a value by a label and a join of two values,
-// lawful on the values that it admits. A step by a label that it does not have leaves the value.
+use history::Letter;
+
+/// A measure: a number of labels, a start value, a step from a value by a letter and a join of two values, lawful on the values that it admits. A
+/// step by a letter that it does not have leaves the value. None of the four refuses or changes anything.
 pub trait Measure {
     type Value: Copy;
 
@@ -41,30 +44,30 @@ pub trait Measure {
     // the values on which it is lawful
     ghost admits: { Self → Self.Value → Type 0 };
 
-    // The number of labels.
+    /// The number of labels.
     fn labels(&self) -> u8
         ensures { result ≡ (meaning self.now).labels };
 
-    // The value before any label.
+    /// The value before any label.
     fn start(&self) -> Self::Value
         ensures { result ≡ (meaning self.now).start };
 
-    // The value after one more label. A label that the measure does not have leaves the value, which each measure sees to.
-    fn step(&self, v: Self::Value, l: u8) -> Self::Value
+    /// The value after one more letter. A letter that the measure does not have leaves the value, which each measure sees to.
+    fn step(&self, v: Self::Value, l: Letter) -> Self::Value
         ensures { result ≡ (meaning self.now).step v l };
 
-    // The value of all words of which a or b is the value.
+    /// The value of all words of which a or b is the value.
     fn join(&self, a: Self::Value, b: Self::Value) -> Self::Value
         ensures { result ≡ (meaning self.now).join a b };
 
     ghost lawful: { (m : Self) → Lawful (meaning m) (admits m) };
 }
 
-// The measure carried along a word of labels. It goes through joins (`carries`), and in every run of a board the value told at each
-// accepted mark is the join of what it makes of the words of the longest flows that end there, each taken once, whatever the order of the
-// calls (`runs`).
+/// The measure carried along a word: its start, stepped by each letter in turn. It goes through joins (`carries`), and in every run of a board the
+/// value of each accepted mark is the join of what it makes of the words of the longest flows that end there, each taken once, whatever the order of
+/// the calls (`runs`).
 #[tactic(auto, using(crate::proofs::WordValueFacts::carried_more, crate::proofs::WordValueFacts::carries))]
-pub fn carry<M: Measure>(m: &M, word: &[u8]) -> M::Value
+pub fn carry<M: Measure>(m: &M, word: &[Letter]) -> M::Value
     ensures value { result ≡ word_value (M.meaning m.now) word.now }
     ensures carries { Carries (M.meaning m.now) (M.admits m.now) }
     ensures runs { LawOfRuns (M.meaning m.now) }

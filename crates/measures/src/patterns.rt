@@ -6,6 +6,7 @@ use super::Measure;
 use super::judges::Judge;
 use super::sizes::Count;
 use bitset::{insert, intersects, is_subset, union};
+use history::Letter;
 
 mod images;
 mod readers;
@@ -64,7 +65,7 @@ impl Measure for Pattern {
         insert(0, self.head.start)
     }
 
-    fn step(&self, v: u64, l: u8) -> u64 {
+    fn step(&self, v: u64, l: Letter) -> u64 {
         if l < self.head.labels.number {
             self.image(v, l)
         } else {

@@ -1,10 +1,10 @@
-// Why a pattern, a relabelling or a measure is refused.
+//! Why a pattern, a relabelling or a measure is refused.
 ghost use Rattle.std.specs.Prelude.{◌≡◌};
 ghost use Rattle.measures.specs.Refusals.{number, fault};
 
 use thiserror::Error;
 
-// The refusals, each with its number.
+/// The refusals of readers and makers, each with its number.
 #[derive(Clone, Copy, PartialEq, Eq, Debug, Error)]
 pub enum Refusal {
     #[error("fewer than twelve bytes")]
@@ -29,7 +29,7 @@ pub enum Refusal {
     NotARelabelling = 22,
 }
 
-// The number of a refusal.
+/// The number of a refusal.
 impl From<Refusal> for u8 {
     ghost from_gives = { λ refusal n. n ≡ number refusal };
 
@@ -38,7 +38,7 @@ impl From<Refusal> for u8 {
     }
 }
 
-// A refusal, and the byte of the input where it was met.
+/// A refusal, and the byte of the input where it was met.
 #[derive(Clone, Copy, PartialEq, Eq, Debug, Error)]
 #[error("{refusal}, at byte {place}")]
 pub struct Fault {

@@ -1,7 +1,8 @@
-// The relabelling: any measure, stepped by the labels that a table gives for its own.
-ghost use Rattle.std.specs.Prelude.{◌≡◌, ◌+◌, ◌<◌, ◌≤◌, length, Some, None, MatchResult};
+//! The relabelling: any measure, stepped by the labels that a table gives for its own.
+ghost use Rattle.std.specs.Prelude.{◌≡◌, ◌+◌, ◌<◌, ◌≤◌, length, Some, None, IfOk, MatchResult};
 ghost use Rattle.measures.specs.Formats.{relabelling_head_fault, relabelling_fault, relabelling_labels_in, entries_in, with_zeros};
-ghost use Rattle.measures.specs.Relabellings.{inner_label, translation, relabelling};
+ghost use Rattle.measures.specs.Limits.{most_labels};
+ghost use Rattle.measures.specs.Relabellings.{IsRelabellingOf, inner_label, inner_of, inner_word, relabelling, relabelling_meaning, relabelling_size};
 ghost use Rattle.measures.specs.RelabellingLaws.{relabelled_lawful};
 
 use super::Measure;
@@ -9,16 +10,20 @@ use super::judges::Judge;
 use super::refusals::{Fault, Refusal};
 use super::sizes::Count;
 use super::tables::{table, with_zeros};
+use history::Letter;
 use text::Cursor;
 
-// The inner label of each label; the first `count` entries are used. A plain struct of 64 entries with their count: a rule of the project.
+/// The first byte of a relabelling.
+const TAG: u8 = 0x30;
+
+// The inner label of each label; the first `count` entries are used. Its memory is fixed, since nothing here allocates.
 #[derive(Clone, Copy)]
 struct LabelTable {
     entries: [u8; 64],
     count: Count,
 }
 
-// An inner measure under other labels; over a judge it is a judge, of translated words.
+/// An inner measure under other labels; over a judge it is a judge, of translated words.
 #[derive(Clone, Copy)]
 pub struct Relabelling<M: Measure> {
     table: LabelTable,
@@ -37,15 +42,17 @@ impl LabelTable {
 
     // The label count of the table where the cursor stands.
     fn read_count(cursor: Cursor<'_>) -> Result<Count, Fault>
-        ensures { let fault = relabelling_head_fault cursor.entry.input.now cursor.entry.place in
+        ensures {
+            let fault = relabelling_head_fault cursor.entry.input.now cursor.entry.place in
             MatchResult result
-            (λ n. (fault ≡ None) × (n.number ≡ relabelling_labels_in cursor.entry.input.now cursor.entry.place)
-            × (cursor.entry.place + 2 ≤ length cursor.entry.input.now))
-            (λ f. fault ≡ Some f) }
+                (λ n. (fault ≡ None) × (n.number ≡ relabelling_labels_in cursor.entry.input.now cursor.entry.place)
+                    × (cursor.entry.place + 2 ≤ length cursor.entry.input.now))
+                (λ f. fault ≡ Some f)
+        }
     {
         match cursor.bytes() {
-            Some([0x30]) => Err(Fault::at(Refusal::TableTooShort, cursor.input.len())),
-            Some([0x30, count, ..]) => {
+            Some([TAG]) => Err(Fault::at(Refusal::TableTooShort, cursor.input.len())),
+            Some([TAG, count, ..]) => {
                 Count::new(*count).ok_or(Fault::at(Refusal::LabelCount, cursor.place + 1))
             }
             _ => Err(Fault::at(Refusal::NotARelabelling, cursor.place)),
@@ -54,12 +61,14 @@ impl LabelTable {
 
     // The table where the cursor stands.
     fn read(cursor: Cursor<'_>, n: u8) -> Result<LabelTable, Fault>
-        ensures { let fault = relabelling_fault cursor.entry.input.now cursor.entry.place n in
+        ensures {
+            let fault = relabelling_fault cursor.entry.input.now cursor.entry.place n in
             MatchResult result
-            (λ t. (fault ≡ None)
-            × (t.count.number ≡ relabelling_labels_in cursor.entry.input.now cursor.entry.place)
-            × (t.entries ≡ with_zeros 64 (entries_in cursor.entry.input.now cursor.entry.place)))
-            (λ f. fault ≡ Some f) }
+                (λ t. (fault ≡ None)
+                    × (t.count.number ≡ relabelling_labels_in cursor.entry.input.now cursor.entry.place)
+                    × (t.entries ≡ with_zeros most_labels (entries_in cursor.entry.input.now cursor.entry.place)))
+                (λ f. fault ≡ Some f)
+        }
     {
         let count = Self::read_count(cursor)?;
         let after = Cursor {
@@ -75,26 +84,31 @@ impl LabelTable {
 }
 
 impl<M: Measure> Relabelling<M> {
-    // The relabelling to the labels of `inner` whose bytes begin where the cursor stands. A fault is told at its place in the whole input.
+    /// The relabelling to the labels of `inner` whose bytes begin where the cursor stands, with the fault of the first question that is answered no
+    /// (22, 19, 16, 20), told at its place in the whole input.
     pub fn read(cursor: Cursor<'_>, inner: M) -> Result<Relabelling<M>, Fault>
     where
         M: Drop,
-        ensures { let labels = (M.meaning inner).labels in
+        ensures answer {
+            let labels = (M.meaning inner).labels in
             let fault = relabelling_fault cursor.entry.input.now cursor.entry.place labels in
             MatchResult result
-            (λ m. (fault ≡ None)
-            × (m.table.count.number ≡ relabelling_labels_in cursor.entry.input.now cursor.entry.place)
-            × (m.table.entries ≡ with_zeros 64 (entries_in cursor.entry.input.now cursor.entry.place))
-            × (m.inner ≡ inner))
-            (λ f. fault ≡ Some f) }
+                (λ r. (fault ≡ None) × IsRelabellingOf cursor.entry.input.now cursor.entry.place inner r)
+                (λ f. fault ≡ Some f)
+        }
+        ensures meaning {
+            let entries = with_zeros most_labels (entries_in cursor.entry.input.now cursor.entry.place) in
+            let count = relabelling_labels_in cursor.entry.input.now cursor.entry.place in
+            IfOk result (λ r. ⟦<Relabelling<M> as Measure>⟧.meaning r ≡ relabelling entries count (M.meaning inner))
+        }
     {
         let table = LabelTable::read(cursor, inner.labels())?;
         Ok(Relabelling { table, inner })
     }
 
-    // The number of bytes that the relabelling was read from.
+    /// The number of bytes that the relabelling was read from.
     pub fn size(&self) -> usize
-        ensures { result ≡ 2 + self.now.table.count.number }
+        ensures { result ≡ relabelling_size self.now }
     {
         2 + self.table.count.number as usize
     }
@@ -103,11 +117,11 @@ impl<M: Measure> Relabelling<M> {
 impl<M: Measure> Measure for Relabelling<M> {
     type Value = M::Value;
 
-    ghost meaning = { λ r. relabelling r.table.entries r.table.count.number (M.Measure.meaning r.inner) };
+    ghost meaning = { λ r. relabelling_meaning M.Measure.meaning r };
 
-    ghost admits = { λ r v. M.Measure.admits r.inner v };
+    ghost admits = { λ r v. M.Measure.admits (inner_of r) v };
 
-    ghost lawful = { λ m. relabelled_lawful m.table.entries m.table.count.number (M.Measure.meaning m.inner) m.table.count.in_range (M.Measure.lawful m.inner) };
+    ghost lawful = { λ r. relabelled_lawful M.Measure.meaning r (M.Measure.lawful (inner_of r)) };
 
     fn labels(&self) -> u8 {
         self.table.count.number
@@ -117,7 +131,7 @@ impl<M: Measure> Measure for Relabelling<M> {
         self.inner.start()
     }
 
-    fn step(&self, v: M::Value, l: u8) -> M::Value {
+    fn step(&self, v: M::Value, l: Letter) -> M::Value {
         if l < self.table.count.number {
             let to = self.table.inner_label(l, self.inner.labels());
             self.inner.step(v, to)
@@ -132,11 +146,11 @@ impl<M: Measure> Measure for Relabelling<M> {
 }
 
 impl<M: Judge> Judge for Relabelling<M> {
-    ghost good = { λ r w. M.Judge.good r.inner (translation r.table.entries (M.Measure.meaning r.inner).labels w) };
+    ghost good = { λ r w. M.Judge.good (inner_of r) (inner_word M.Measure.meaning r w) };
 
-    ghost some_of = { λ r v. M.Judge.some_of r.inner v };
+    ghost some_of = { λ r v. M.Judge.some_of (inner_of r) v };
 
-    ghost all_of = { λ r v. M.Judge.all_of r.inner v };
+    ghost all_of = { λ r v. M.Judge.all_of (inner_of r) v };
 
     fn some(&self, v: M::Value) -> bool {
         self.inner.some(v)

@@ -1,4 +1,4 @@
-// Numbers of states and of labels.
+//! Numbers of states and of labels.
 ghost use Rattle.std.specs.Prelude.{◌≡◌, ◌<◌, ◌≤◌, Some, None, MatchOption, true, false};
 ghost use Rattle.measures.specs.Refusals.{is_count};
 
@@ -12,7 +12,10 @@ pub(crate) struct Count {
 impl Count {
     // The number as a count, or none outside 1 to 64. No `TryFrom`: states and labels have a refusal each, which the caller knows.
     pub(crate) fn new(number: u8) -> Option<Count>
-        ensures { MatchOption result (is_count number ≡ false) (λ n. (is_count number ≡ true) × (n.number ≡ number)) }
+        ensures {
+            MatchOption result (is_count number ≡ false)
+                (λ n. (is_count number ≡ true) × (n.number ≡ number))
+        }
     {
         match number {
             1..=64 => Some(Count { number }),

@@ -7,6 +7,7 @@ use super::Measure;
 use super::judges::Judge;
 use super::refusals::Refusal;
 use super::sizes::Count;
+use history::Letter;
 
 /// The numbers of marks of the shortest and of the longest flow, up to 65,535 each.
 #[derive(Clone, Copy, PartialEq, Eq, Default, Debug)]
@@ -69,7 +70,7 @@ impl Measure for Span {
         Lengths::default()
     }
 
-    fn step(&self, v: Lengths, l: u8) -> Lengths {
+    fn step(&self, v: Lengths, l: Letter) -> Lengths {
         if l < self.labels.number {
             Lengths {
                 shortest: v.shortest.saturating_add(1),

@@ -12,7 +12,7 @@ use Rattle.measures.specs.Formats.{states_in, labels_in, start_in, finals_in, ta
 use Rattle.measures.specs.Judges.{Judges}
 use Rattle.measures.specs.Laws.{accepted_events, AtMarks, TellsOfFlows}
 use Rattle.measures.specs.Measures.{Meaning, Lawful, word_value}
-use Rattle.measures.specs.RelabellingLaws.{relabelled_lawful}
+use Rattle.measures.specs.RelabellingLaws.{relabelling_lawful}
 use Rattle.measures.specs.StateSetLaws.{state_sets_lawful}
 use Rattle.measures.specs.Words.{Word, Labels}
 use Rattle.measures.proofs.Promises.{meets_or, within_or, some_decided, marks_judged, holds_judges, accepted_decides, recognizes, translated_judges, ranged}
@@ -47,7 +47,7 @@ module _ (b : List ℕ) (sound : front_fault b ≡ None) where
   -- The relabelled pattern is a lawful measure.
   laws : Lawful (judge_in b) admits
   laws =
-      relabelled_lawful entries (relabelling_labels_in b (relabelling_at b)) inner (count_in_range b sound)
+      relabelling_lawful entries (relabelling_labels_in b (relabelling_at b)) inner (count_in_range b sound)
       (state_sets_lawful (states_in b) (labels_in b) (start_in b) (with_zeros 4096 (table_in b)) (labels_in_range b sound) (start_below b sound) (table_below b sound))
 
   -- An answer that the pattern shows of words is one that the relabelled pattern shows of relabelled words.

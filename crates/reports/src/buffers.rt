@@ -1,5 +1,5 @@
-// Pieces of text, put where they stand: each after the bytes before `at`, which stay as they are; those after it are free. A function that puts a
-// piece answers where it ends.
+//! Pieces of text, put where they stand: each after the bytes before `at`, which stay as they are; those after it are free. A function that puts a
+//! piece answers where it ends.
 ghost use Rattle.std.specs.Prelude.{◌≡◌, ◌+◌, ◌/◌, ◌%◌, ◌<◌, ◌≤◌, [], ◌∷◌, ◌++◌, length, take, drop, decimal};
 ghost use Rattle.text.specs.Hex.{digit_in_hex, hex_word};
 ghost use Rattle.text.specs.Lines.{bit};

@@ -1,4 +1,4 @@
-// The commands of a recording.
+//! The commands of a recording.
 ghost use Rattle.std.specs.Prelude.{◌≡◌, Ok, Err, MatchResult};
 ghost use Rattle.reports.specs.Commands.{first_command as first_in};
 ghost use Rattle.reports.specs.declared.commands.Command.TheVariants.{Call as call_command};

@@ -1,4 +1,4 @@
-// The faults that end a report.
+//! The faults that end a report.
 ghost use Rattle.std.specs.Prelude.{◌≡◌, [], ◌∷◌};
 ghost use Rattle.reports.specs.Faults.{layer, number, place};
 

@@ -1,4 +1,4 @@
-// The lines of a report, each written where it stands, after those before it.
+//! The lines of a report, each written where it stands, after those before it.
 ghost use Rattle.std.specs.Prelude.{◌≡◌, ◌+◌, ◌≤◌, [], ◌++◌, length, take, IfOk, vec_capacity};
 ghost use Rattle.reports.specs.Lines.{mark_text, left_text, fault_text, header};
 ghost use Rattle.text.specs.Lines.{line_of};

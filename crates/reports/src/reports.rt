@@ -1,4 +1,4 @@
-// The report on an input: a pattern, a relabelling and a recording.
+//! The report on an input: a pattern, a relabelling and a recording.
 ghost use Rattle.std.specs.Prelude.{◌≡◌, ◌+◌, ◌*◌, ◌≤◌, ◌++◌, length, min, IfOk, IfSome, OnOk, Some, None, MatchResult};
 ghost use Rattle.std.specs.Io.KnownBytes.{Appends};
 ghost use Rattle.reports.specs.Laws.{LawOfReports};

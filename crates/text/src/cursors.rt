@@ -1,4 +1,4 @@
-// A place in an input that is read from front to end.
+//! A place in an input that is read from front to end.
 ghost use Rattle.std.specs.Prelude.{◌≡◌, ◌+◌, ◌<◌, ◌≤◌, length, take, drop, MatchOption};
 
 /// An input, and the byte of it where reading goes on. The place may lie past the end, where nothing is left to be read.

@@ -1,5 +1,5 @@
-// What programs read and print: the front of an input and the place in it where reading goes on, and a word in hexadecimal.
-// Stands on nothing here.
+//! What programs read and print: the front of an input and the place in it where reading goes on, and a word in hexadecimal.
+//! Stands on nothing here.
 #![tactic(auto)]
 
 ghost use Rattle.std.specs.Prelude.{◌≡◌, length};

@@ -1,5 +1,5 @@
-// A judge of one's own: does a flow pass a waypoint, that is, has one of its marks a given label?
-// docs/OWN-MEASURE.md goes through it. Stands on `measures`; its tests put it on a board.
+//! A judge of one's own: does a flow pass a waypoint, that is, has one of its marks a given label?
+//! docs/OWN-MEASURE.md goes through it. Stands on `measures`; its tests put it on a board.
 #![tactic(auto)]
 
 ghost use Rattle.std.specs.Prelude.{◌≡◌, ◌<◌, ◌≤◌, ◌↔◌, Contains, IsSome, IfSome, ⊤};

@@ -1,5 +1,5 @@
-// The waypoint on a board: the verdict on the sound of the lost wake-up, and of a walk whose player
-// waits first.
+//! The waypoint on a board: the verdict on the sound of the lost wake-up, and of a walk whose player
+//! waits first.
 use super::{Passages, Waypoint};
 use causality::Board;
 use grid::Grid;

@@ -1,4 +1,4 @@
-// Reports as they are written, byte for byte.
+//! Reports as they are written, byte for byte.
 use reports::report;
 use std::process::Abort;
 use std::test::Fail;
