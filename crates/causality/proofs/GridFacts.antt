@@ -9,7 +9,7 @@ use Rattle.grid.specs.declared.Grid.{Grid}
 use Rattle.grid.specs.declared.RowPair.{RowPair}
 use Rattle.grid.specs.Grids.{has_rows, with_cells, LieWithin}
 use Rattle.grid.specs.Rows.{row, with_row, RowIs}
-use Rattle.grid.proofs.Promises.{cell_set, copied_row, row_same, tabled_row, twice, written_row}
+use Rattle.grid.proofs.Promises.{cell_set, copied_row, row_same, function_row, twice, written_row}
 use Rattle.history.specs.declared.cells.Cell.{Cell}
 use Rattle.causality.specs.Merging.{merged_row}
 use Rattle.causality.proofs.RoomFacts.{room_row, room_there}
@@ -67,7 +67,7 @@ pub row_merged : {V X : Type 0} {n k : ℕ} {g : Grid X} → Room n k g → (d :
 row_merged {n = n} {g = g} r d start first starts cs fs vs rows part new e h is =
     let given : new ≡ with_cells g.cells.now rows (λ j. part (merged_row start cs fs vs rows j)) rows.width = is ∙ ap (λ v. with_cells g.cells.now rows (λ j. part (merged_row v cs fs vs rows j)) rows.width) starts in
     subst (λ (w : ℕ). RowIs w rows.to d (λ j. part (merged_row start cs fs vs rows j)) g.cells.now new) e
-    (tabled_row rows.width rows.to d g.cells.now (rw e (room_row r rows.to h)) (λ j. part (merged_row start cs fs vs rows j)) new given)
+    (function_row rows.width rows.to d g.cells.now (rw e (room_row r rows.to h)) (λ j. part (merged_row start cs fs vs rows j)) new given)
 
 -- the rows of a merge lie within a grid of the board
 pub rows_within : {X : Type 0} {n k : ℕ} {g : Grid X} → Room n k g → (from to : ℕ) → from < n + k → to < n + k → LieWithin (record { width = n; from = from; to = to }) (length g.cells.now)

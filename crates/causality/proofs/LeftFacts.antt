@@ -14,9 +14,9 @@ count_below_same f g (suc n) e =
     ap₂ (λ (t : ℕ) (b : Bool). t + (if b then 1 else 0)) (count_below_same f g n (λ m h. e m (omega arith))) (e n (omega arith))
 
 -- the count over the first k
-travelling_take : (posts : List Post) (k : ℕ) → k ≤ length posts → count_by is_on_its_way (take k posts) ≡ left_among (λ m. get_or posts m unsent) k
-travelling_take posts zero h = refl
-travelling_take posts (suc k) h = one (is_on_its_way (get_or posts k unsent)) refl (travelling_take posts k (omega arith))
+left_among_take : (posts : List Post) (k : ℕ) → k ≤ length posts → count_by is_on_its_way (take k posts) ≡ left_among (λ m. get_or posts m unsent) k
+left_among_take posts zero h = refl
+left_among_take posts (suc k) h = one (is_on_its_way (get_or posts k unsent)) refl (left_among_take posts k (omega arith))
   where
     one : (b : Bool) → is_on_its_way (get_or posts k unsent) ≡ b → count_by is_on_its_way (take k posts) ≡ left_among (λ m. get_or posts m unsent) k
         → count_by is_on_its_way (take (suc k) posts) ≡ left_among (λ m. get_or posts m unsent) k + (if b then 1 else 0)
@@ -26,8 +26,8 @@ travelling_take posts (suc k) h = one (is_on_its_way (get_or posts k unsent)) re
         ∙ ap (λ (t : ℕ). t + 1) before
     one false e before = ap (λ (i : ℕ). count_by is_on_its_way (take i posts)) (sym (add-one k)) ∙ count_by_more_no is_on_its_way posts k unsent (omega arith) e ∙ before ∙ sym (add-zero _)
 
-pub travelling_front : (posts : List Post) (k count : ℕ) → k ≤ length posts → count ≡ count_by is_on_its_way (take k posts) → count ≡ left_among (λ m. get_or posts m unsent) k
-travelling_front posts k count h e = e ∙ travelling_take posts k h
+pub count_left_is : (posts : List Post) (k count : ℕ) → k ≤ length posts → count ≡ count_by is_on_its_way (take k posts) → count ≡ left_among (λ m. get_or posts m unsent) k
+count_left_is posts k count h e = e ∙ left_among_take posts k h
 
 pub each_shows : {V : Type 0} (start : V) (n k : ℕ) → EachShows start n k
 each_shows start n k memory = (

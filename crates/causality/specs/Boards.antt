@@ -70,14 +70,14 @@ pub record Holds {V X : Type 0} (part : Cell V → X) (other : X) (n k : ℕ) (x
   pub rows : (u j : ℕ) → u < n → j < n → slice_index_or xs (u * n + j) other ≡ part (s.rows u j)
   pub message_rows : (m j : ℕ) → m < k → j < n → slice_index_or xs ((n + m) * n + j) other ≡ part (s.message_rows m j)
 
--- The memory shows the state: each of the n + k rows, and what became of each of the k messages. Of memory beyond them it says nothing.
+-- The memory shows these contents of a board: each of the n + k rows, and what became of each of the k messages. Of memory beyond them it says nothing.
 pub record Shows {V : Type 0} (start : V) (n k : ℕ) (memory : Memory V) (s : Contents V) : Type 0 where
   pub clocks : Holds (λ (c : Cell V). c.clock) 0 n k memory.clocks.cells.now s
   pub flags : Holds (λ (c : Cell V). c.flag) false n k memory.flags.cells.now s
   pub values : Holds (λ (c : Cell V). c.value) start n k memory.values.cells.now s
   pub posts : (m : ℕ) → m < k → slice_index_or memory.posts m unsent ≡ s.posts m
 
--- Every memory shows a state: that whose rows and messages are read off it. So what is said of each state that a memory shows is never idle.
+-- Every memory shows some contents: those whose rows and messages are read off it. So what is said of all contents that a memory shows is never idle.
 abbrev pub EachShows : {V : Type 0} → V → ℕ → ℕ → Type 0
 EachShows {V} start n k = (memory : Memory V) → (s : Contents V) × Shows start n k memory s
 
@@ -93,8 +93,8 @@ pub record SameBeyond {V : Type 0} (start : V) (n k : ℕ) (old new : Memory V) 
   pub values : SameFrom start ((n + k) * n) old.values.cells.now new.values.cells.now
   pub posts : SameFrom unsent k old.posts new.posts
 
--- What a send, a receipt or a mark owes, whichever state its memory shows: the answer or the refusal of the rules, and memory that shows the
--- state after it. `room` says whether the memory is long enough, the first question of each call.
+-- What a send, a receipt or a mark owes, whatever contents its memory shows: the answer or the refusal of the rules, and memory that shows the
+-- contents after it. `room` says whether the memory is long enough, the first question of each call.
 pub record Follows {V : Type 0} (M : Payload V) (z : Size) (c : Call) (room : Bool) (old new : Memory V) (r : Result (Answer V) Refusal) : Type 0 where
   pub answer : (s : Contents V) → Shows M.start z.units z.messages old s → r ≡ (if room then outcome M z s c else Err MemoryTooShort)
   pub contents : (s : Contents V) → Shows M.start z.units z.messages old s → Shows M.start z.units z.messages new (if room then next_contents M z s c else s)

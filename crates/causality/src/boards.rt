@@ -69,15 +69,11 @@ impl<P: Payload> Board<P> {
     ) -> Result<Board<P>, Refusal>
     where
         P: Drop,
-        ensures board {
-            MakeAnswer payload units messages
-                (has_room units messages (memory clocks.old flags.old values.old posts.old)) result
-        }
-        ensures begins {
-            Begins (setup (P.rules payload) units messages)
-                (memory clocks.old flags.old values.old posts.old)
-                (memory clocks.new flags.new values.new posts.new)
-        }
+        ensures board { MakeAnswer payload units messages
+            (has_room units messages (memory clocks.old flags.old values.old posts.old)) result }
+        ensures begins { Begins (setup (P.rules payload) units messages)
+            (memory clocks.old flags.old values.old posts.old)
+            (memory clocks.new flags.new values.new posts.new) }
     {
         let board = Board::of_size(payload, units, messages)?;
         if !board.has_room(clocks, flags, values, posts) {
@@ -98,8 +94,8 @@ impl<P: Payload> Board<P> {
         &self.payload
     }
 
-    /// Whether the memory is long enough: the first question of each call. Whatever a memory holds, it shows a state (`shows`), so the promises
-    /// of the calls, which speak of each state that the memory shows, speak of every memory.
+    /// Whether the memory is long enough: the first question of each call. Whatever a memory holds, it shows some contents of a
+    /// board (`shows`), so the promises of the calls, which speak of all contents that the memory shows, speak of every memory.
     #[tactic(auto, using(crate::proofs::LeftFacts::each_shows))]
     pub fn has_room(
         &self,
@@ -108,14 +104,10 @@ impl<P: Payload> Board<P> {
         values: &Grid<'_, P::Value>,
         posts: &[Post],
     ) -> bool
-        ensures room {
-            let b = setup_of self.now in
-            result ≡ has_room b.units b.messages (memory clocks.now flags.now values.now posts.now)
-        }
-        ensures shows {
-            let b = setup_of self.now in
-            EachShows b.rules.start b.units b.messages
-        }
+        ensures room { let b = setup_of self.now in
+            result ≡ has_room b.units b.messages (memory clocks.now flags.now values.now posts.now) }
+        ensures shows { let b = setup_of self.now in
+            EachShows b.rules.start b.units b.messages }
     {
         self.has_all_rows(clocks)
             && self.has_all_rows(flags)
@@ -139,12 +131,10 @@ impl<P: Payload> Board<P> {
         posts: &[Post],
         unit: usize,
     ) -> Result<(), Refusal>
-        ensures {
-            let b = setup_of self.now in
+        ensures { let b = setup_of self.now in
             let a = memory clocks.now flags.now values.now posts.now in
             MatchResult result (λ _. Ready b.units b.messages a unit)
-                (λ e. (c : Call) → c.unit ≡ unit → IsRefused b a c e)
-        }
+            (λ e. (c : Call) → c.unit ≡ unit → IsRefused b a c e) }
     {
         if !self.has_room(clocks, flags, values, posts) {
             return Err(Refusal::MemoryTooShort);
@@ -166,14 +156,12 @@ impl<P: Payload> Board<P> {
         message: usize,
         handling: Handling,
     ) -> Result<Post, Refusal>
-        ensures {
-            let b = setup_of self.now in
+        ensures { let b = setup_of self.now in
             let a = memory clocks.now flags.now values.now posts.now in
             MatchResult result
-                (λ post. Ready b.units b.messages a unit × (message < b.messages)
-                    × (handled_post (slice_index_or posts.now message unsent) handling ≡ Ok post))
-                (λ e. IsRefused b a (call unit (handling_event handling message)) e)
-        }
+            (λ post. Ready b.units b.messages a unit × (message < b.messages)
+            × (handled_post (slice_index_or posts.now message unsent) handling ≡ Ok post))
+            (λ e. IsRefused b a (call unit (handling_event handling message)) e) }
     {
         self.ask_unit(clocks, flags, values, posts, unit)?;
         if message >= self.messages {
@@ -193,12 +181,10 @@ impl<P: Payload> Board<P> {
         unit: usize,
         label: u8,
     ) -> Result<Clock, Refusal>
-        ensures {
-            let b = setup_of self.now in
+        ensures { let b = setup_of self.now in
             let a = memory clocks.now flags.now values.now posts.now in
             MatchResult result (λ own. MayMark b a unit label × (own ≡ own_clock_in b.units a unit))
-                (λ e. IsRefused b a (call unit (Mark label)) e)
-        }
+            (λ e. IsRefused b a (call unit (Mark label)) e) }
     {
         self.ask_unit(clocks, flags, values, posts, unit)?;
         if !self.payload.fits(unit, label) {
@@ -230,11 +216,9 @@ impl<P: Payload> Board<P> {
         unit: usize,
         message: usize,
     ) -> Result<Clock, Refusal>
-        ensures {
-            Obeys (setup_of self.now) (call unit (Send message))
-                (memory clocks.old flags.old values.old posts.old)
-                (memory clocks.new flags.new values.new posts.new) (result_as Sent result)
-        }
+        ensures { Obeys (setup_of self.now) (call unit (Send message))
+            (memory clocks.old flags.old values.old posts.old)
+            (memory clocks.new flags.new values.new posts.new) (result_as Sent result) }
     {
         let sent = self.ask_message(
             clocks,
@@ -265,11 +249,9 @@ impl<P: Payload> Board<P> {
         unit: usize,
         message: usize,
     ) -> Result<Clock, Refusal>
-        ensures {
-            Obeys (setup_of self.now) (call unit (Receive message))
-                (memory clocks.old flags.old values.old posts.old)
-                (memory clocks.new flags.new values.new posts.new) (result_as Received result)
-        }
+        ensures { Obeys (setup_of self.now) (call unit (Receive message))
+            (memory clocks.old flags.old values.old posts.old)
+            (memory clocks.new flags.new values.new posts.new) (result_as Received result) }
     {
         let received = self.ask_message(
             clocks,
@@ -307,11 +289,9 @@ impl<P: Payload> Board<P> {
         unit: usize,
         label: u8,
     ) -> Result<Marked<P::Value>, Refusal>
-        ensures {
-            Obeys (setup_of self.now) (call unit (Mark label))
-                (memory clocks.old flags.old values.old posts.now)
-                (memory clocks.new flags.new values.new posts.now) (result_as marked result)
-        }
+        ensures { Obeys (setup_of self.now) (call unit (Mark label))
+            (memory clocks.old flags.old values.old posts.now)
+            (memory clocks.new flags.new values.new posts.now) (result_as marked result) }
     {
         let own = self.ask_mark(clocks, flags, values, posts, unit, label)?;
         let clock = own + 1;
@@ -331,22 +311,12 @@ impl<P: Payload> Board<P> {
 
     // The value of a mark, by the set of the units that have an immediate predecessor of it and the values of its unit's row. The row is reset, with
     // that value in the unit's own cell.
-    fn put_value(
-        &self,
-        row: &mut [P::Value],
-        predecessors: u64,
-        unit: usize,
-        label: u8,
-    ) -> P::Value
-        ensures value {
-            let rules = (setup_of self.now).rules in
+    fn put_value(&self, row: &mut [P::Value], predecessors: u64, unit: usize, label: u8) -> P::Value
+        ensures value { let rules = (setup_of self.now).rules in
             (n : ℕ) (r : ℕ → Cell P.Value) → Reads rules.start n r predecessors row.old
-                → result ≡ rules.make n r unit label
-        }
-        ensures row {
-            let start = (setup_of self.now).rules.start in
-            row.new ≡ slice_set (replicate (length row.old) start) unit result
-        }
+            → result ≡ rules.make n r unit label }
+        ensures row { let start = (setup_of self.now).rules.start in
+            row.new ≡ slice_set (replicate (length row.old) start) unit result }
     {
         let value = self.payload.worth(predecessors, row, unit, label);
         fill(row, self.payload.start());
@@ -363,23 +333,22 @@ impl<P: Payload> Board<P> {
         posts: &[Post],
         message: usize,
     ) -> Result<Post, Refusal>
-        ensures {
-            let b = setup_of self.now in
+        ensures { let b = setup_of self.now in
             let room = has_room b.units b.messages (memory clocks.now flags.now values.now posts.now) in
-            result ≡ state_answer b.messages room posts.now message
-        }
+            result ≡ state_answer b.messages room posts.now message }
     {
         if !self.has_room(clocks, flags, values, posts) {
             return Err(Refusal::MemoryTooShort);
         }
-        if message >= self.messages {
-            return Err(Refusal::NoSuchMessage);
+        if message < self.messages {
+            Ok(at_or(posts, message, Post::UNSENT))
+        } else {
+            Err(Refusal::NoSuchMessage)
         }
-        Ok(at_or(posts, message, Post::UNSENT))
     }
 
     /// How many messages are on their way. Refuses memory that is too short (3).
-    #[tactic(auto, using(crate::proofs::LeftFacts::travelling_front))]
+    #[tactic(auto, using(crate::proofs::LeftFacts::count_left_is))]
     pub fn left(
         &self,
         clocks: &Grid<'_, Clock>,
@@ -387,16 +356,14 @@ impl<P: Payload> Board<P> {
         values: &Grid<'_, P::Value>,
         posts: &[Post],
     ) -> Result<usize, Refusal>
-        ensures {
-            let b = setup_of self.now in
+        ensures { let b = setup_of self.now in
             let room = has_room b.units b.messages (memory clocks.now flags.now values.now posts.now) in
-            result ≡ left_answer b.messages room posts.now
-        }
+            result ≡ left_answer b.messages room posts.now }
     {
         if !self.has_room(clocks, flags, values, posts) {
             return Err(Refusal::MemoryTooShort);
         }
-        Ok(travelling(&posts[..self.messages]))
+        Ok(count_left(&posts[..self.messages]))
     }
 }
 
@@ -409,7 +376,7 @@ fn begin_posts(posts: &mut [Post], messages: usize)
 }
 
 // How many messages are on their way.
-fn travelling(posts: &[Post]) -> usize
+fn count_left(posts: &[Post]) -> usize
     ensures { result ≡ count_by is_on_its_way posts.now }
 {
     posts.iter().filter(|post| post.is_on_its_way()).count()

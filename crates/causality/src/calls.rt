@@ -16,11 +16,9 @@ impl<P: Payload> Board<P> {
         posts: &mut [Post],
         call: Call,
     ) -> Result<Answer<P::Value>, Refusal>
-        ensures {
-            Obeys (setup_of self.now) call
-                (memory clocks.old flags.old values.old posts.old)
-                (memory clocks.new flags.new values.new posts.new) result
-        }
+        ensures { Obeys (setup_of self.now) call
+            (memory clocks.old flags.old values.old posts.old)
+            (memory clocks.new flags.new values.new posts.new) result }
     {
         match call.event {
             Event::Send(message) => {

@@ -58,18 +58,12 @@ fn merge_column<V: Copy>(
     requires clocks { LieWithin rows (length clocks.old) }
     requires flags { LieWithin rows (length flags.old) }
     requires values { LieWithin rows (length values.old) }
-    ensures clocks {
-        clocks.new ≡ slice_set clocks.old (rows.to * rows.width + j)
-            (merged_row start clocks.old flags.old values.old rows j).clock
-    }
-    ensures flags {
-        flags.new ≡ slice_set flags.old (rows.to * rows.width + j)
-            (merged_row start clocks.old flags.old values.old rows j).flag
-    }
-    ensures values {
-        values.new ≡ slice_set values.old (rows.to * rows.width + j)
-            (merged_row start clocks.old flags.old values.old rows j).value
-    }
+    ensures clocks { clocks.new ≡ slice_set clocks.old (rows.to * rows.width + j)
+        (merged_row start clocks.old flags.old values.old rows j).clock }
+    ensures flags { flags.new ≡ slice_set flags.old (rows.to * rows.width + j)
+        (merged_row start clocks.old flags.old values.old rows j).flag }
+    ensures values { values.new ≡ slice_set values.old (rows.to * rows.width + j)
+        (merged_row start clocks.old flags.old values.old rows j).value }
 {
     let other = cell_at(start, clocks, flags, values, rows.from * rows.width + j);
     let own = cell_at(start, clocks, flags, values, rows.to * rows.width + j);
@@ -91,18 +85,12 @@ pub(crate) fn merge_rows<V: Copy>(
     requires clocks { LieWithin rows (length clocks.old) }
     requires flags { LieWithin rows (length flags.old) }
     requires values { LieWithin rows (length values.old) }
-    ensures clocks {
-        let row = merged_row start clocks.old flags.old values.old rows in
-        clocks.new ≡ with_cells clocks.old rows (λ j. (row j).clock) rows.width
-    }
-    ensures flags {
-        let row = merged_row start clocks.old flags.old values.old rows in
-        flags.new ≡ with_cells flags.old rows (λ j. (row j).flag) rows.width
-    }
-    ensures values {
-        let row = merged_row start clocks.old flags.old values.old rows in
-        values.new ≡ with_cells values.old rows (λ j. (row j).value) rows.width
-    }
+    ensures clocks { let row = merged_row start clocks.old flags.old values.old rows in
+        clocks.new ≡ with_cells clocks.old rows (λ j. (row j).clock) rows.width }
+    ensures flags { let row = merged_row start clocks.old flags.old values.old rows in
+        flags.new ≡ with_cells flags.old rows (λ j. (row j).flag) rows.width }
+    ensures values { let row = merged_row start clocks.old flags.old values.old rows in
+        values.new ≡ with_cells values.old rows (λ j. (row j).value) rows.width }
 {
     for j in 0..rows.width {
         merge_column(start, clocks, flags, values, rows, j);

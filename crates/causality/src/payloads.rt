@@ -23,10 +23,8 @@ pub trait Payload {
         unit: usize,
         label: u8,
     ) -> Self::Value
-        ensures {
-            (n : ℕ) (r : ℕ → Cell Self.Value) → Reads (rules self.now).start n r predecessors values.now
-                → result ≡ (rules self.now).make n r unit label
-        };
+        ensures { (n : ℕ) (r : ℕ → Cell Self.Value) → Reads (rules self.now).start n r predecessors values.now
+            → result ≡ (rules self.now).make n r unit label };
 
     /// Whether a unit may use a label.
     fn fits(&self, unit: usize, label: u8) -> bool

@@ -19,12 +19,8 @@ pub struct Stamp<'a> {
 /// or not from 1 to 16 long (12), and then a unit at or above that length (4). On the stamps of two marks of a run the answer is their causal
 /// order (`order`).
 pub fn compare(p: Stamp<'_>, q: Stamp<'_>) -> Result<Precedence, Refusal>
-    ensures answer {
-        result ≡ compare_answer p.entry.clocks.now q.entry.clocks.now p.entry.unit q.entry.unit
-    }
-    ensures order {
-        OrdersMarks p.entry.clocks.now q.entry.clocks.now p.entry.unit q.entry.unit result
-    }
+    ensures answer { result ≡ compare_answer p.entry.clocks.now q.entry.clocks.now p.entry.unit q.entry.unit }
+    ensures order { OrdersMarks p.entry.clocks.now q.entry.clocks.now p.entry.unit q.entry.unit result }
 {
     if !are_stamps(p.clocks.len(), q.clocks.len()) {
         return Err(Refusal::StampLength);
@@ -40,11 +36,9 @@ fn order_of(p: Stamp<'_>, q: Stamp<'_>) -> Precedence
     requires lengths { length p.clocks.now ≡ length q.clocks.now }
     requires first { p.unit < length p.clocks.now }
     requires second { q.unit < length p.clocks.now }
-    ensures {
-        let first = λ (w : ℕ). slice_index p.entry.clocks.now w in
+    ensures { let first = λ (w : ℕ). slice_index p.entry.clocks.now w in
         let second = λ (w : ℕ). slice_index q.entry.clocks.now w in
-        result ≡ stamp_order first second p.entry.unit q.entry.unit
-    }
+        result ≡ stamp_order first second p.entry.unit q.entry.unit }
 {
     let same = p.unit == q.unit && p.clocks[p.unit] == q.clocks[p.unit];
     let precedes = p.clocks[p.unit] <= q.clocks[p.unit];
@@ -61,10 +55,8 @@ fn are_stamps(p: usize, q: usize) -> bool
 
 // The first answer whose test is yes.
 fn first_of(same: bool, precedes: bool, follows: bool) -> Precedence
-    ensures {
-        result ≡ (if same then Same
-            else (if precedes then Precedes else (if follows then Follows else Concurrent)))
-    }
+    ensures { result ≡ (if same then Same
+        else (if precedes then Precedes else (if follows then Follows else Concurrent))) }
 {
     if same {
         Precedence::Same

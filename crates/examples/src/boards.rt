@@ -663,7 +663,10 @@ fn marks_judged(rt: HostRuntime) -> Result<(), Fail> {
     let span = Span::new(3, 2)?;
     assert_eq!(rt; judged(relabelling, &mut [0], &[0, 2, 1])?, Some(good));
     assert_eq!(rt; judged(relabelling, &mut [0], &[0, 2])?, Some(bad));
-    assert_eq!(rt; judged(span, &mut [Lengths::default()], &[1, 0])?, Some(good));
+    assert_eq!(rt;
+        judged(span, &mut [Lengths::default()], &[1, 0])?,
+        Some(good)
+    );
     assert_eq!(rt;
         judged(span, &mut [Lengths::default()], &[1, 0, 2])?,
         Some(bad)

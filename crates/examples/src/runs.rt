@@ -7,7 +7,5 @@ ghost use Rattle.measures.specs.Laws.{LawOfRuns};
 /// - words: the law of runs holds under the measure of words, so what it answers are the words of the longest flows.
 pub fn worked_runs()
     ensures worked { RunsAsWorked }
-    ensures words {
-        (labels : ℕ) → (0 < labels) × (labels ≤ 64) → LawOfRuns (words labels)
-    }
+    ensures words { (labels : ℕ) → (0 < labels) × (labels ≤ 64) → LawOfRuns (words labels) }
 {}

@@ -11,7 +11,7 @@ pub use Rattle.grid.proofs.CellFacts.{column_kept}
 -- A row that is written from a list holds its elements.
 pub use Rattle.grid.proofs.RowFacts.{written_row}
 -- A row that is written from the values of a function holds these.
-pub use Rattle.grid.proofs.RowFacts.{tabled_row}
+pub use Rattle.grid.proofs.RowFacts.{function_row}
 -- A row that is copied holds what the other row held.
 pub use Rattle.grid.proofs.RowFacts.{copied_row}
 -- A row one of whose cells is set holds that value there, and else what it held.

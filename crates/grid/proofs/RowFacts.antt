@@ -40,8 +40,8 @@ module _ {X : Type 0} (n t : ℕ) (d : X) (old : List X) (inside : t * n + n ≤
     outside = λ i o. with_row_outside old ys n t i d inside long o;
   }
 
-  pub tabled_row : (g : ℕ → X) (new : List X) → new ≡ with_row old n t (cells_by g n) → RowIs n t d g old new
-  tabled_row g new e =
+  pub function_row : (g : ℕ → X) (new : List X) → new ≡ with_row old n t (cells_by g n) → RowIs n t d g old new
+  function_row g new e =
       rw e (row_same (written_row (cells_by g n) (omega (arith, length-map-range_with_len g 0 n))) g (λ j h. get_or-map-range_with_len g 0 n j j d h (omega arith)))
 
   pub copied_row : (u : ℕ) (new : List X) → u * n + n ≤ length old → new ≡ with_row old n t (row old n u) → RowIs n t d (λ j. get_or old (u * n + j) d) old new

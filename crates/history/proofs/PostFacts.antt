@@ -19,8 +19,8 @@ pub may_receive : (ev : Events) (m : ℕ) (p : Post) → Stated ev m p → (resu
 may_receive ev m p s = grind arith
 
 -- a message is on its way exactly when it was sent and not received
-pub travels_stated : (ev : Events) (m : ℕ) (p : Post) → Stated ev m p → (is_on_its_way p ≡ true) ↔ (IsSent ev m × (IsReceived ev m → ⊥))
-travels_stated ev m p s = grind arith
+pub on_its_way_stated : (ev : Events) (m : ℕ) (p : Post) → Stated ev m p → (is_on_its_way p ≡ true) ↔ (IsSent ev m × (IsReceived ev m → ⊥))
+on_its_way_stated ev m p s = grind arith
 
 -- the events say one state of a message
 pub stated_one : (ev : Events) (m : ℕ) (p q : Post) → Stated ev m p → Stated ev m q → p ≡ q

@@ -1,6 +1,6 @@
 -- The theorems of this crate that other crates may cite: what every list of calls leads to, what rows show of the marks, how calls
 -- are gone through one by one, and lists that hold exactly what has a property.
-use Rattle.std.proofs.Common.{◌≡◌, ℕ, suc, ◌<◌, ◌⊎◌, ◌↔◌, true, List, [], ◌∷◌, ◌++◌, map, length, Some, None, sym, ap, subst}
+use Rattle.std.proofs.Common.{◌≡◌, ℕ, suc, ◌<◌, ◌⊎◌, ◌↔◌, true, List, [], ◌∷◌, ◌++◌, map, length, Some, None, sym, subst}
 use Rattle.history.specs.Board.{History, refusal, history_after, run, accepted_calls}
 use Rattle.history.specs.Counting.{Exactly, HowMany}
 use Rattle.history.specs.Events.{Events, at, IsSent, IsReceived}
@@ -114,8 +114,8 @@ pub put_cases : {A : Type 0} (f : ℕ → A) (u : ℕ) (x : A) (j : ℕ) → ((j
 put_cases f u x j = LogFacts.put_cases f u x j
 
 -- A message is on its way exactly when it was sent and not received.
-pub travels_stated : (ev : Events) (m : ℕ) (p : Post) → Stated ev m p → (is_on_its_way p ≡ true) ↔ (IsSent ev m × (IsReceived ev m → ⊥))
-travels_stated ev m p = PostFacts.travels_stated ev m p
+pub on_its_way_stated : (ev : Events) (m : ℕ) (p : Post) → Stated ev m p → (is_on_its_way p ≡ true) ↔ (IsSent ev m × (IsReceived ev m → ⊥))
+on_its_way_stated ev m p = PostFacts.on_its_way_stated ev m p
 
 -- ---- Lists that hold exactly what has a property
 

@@ -40,7 +40,7 @@ pub record Reply (V : Type 0) : Type 0 where
   pub answer : Answer V
   pub stamp : ℕ → ℕ
 
--- The state after some calls, each unit's accepted events, and the replies to these.
+-- The contents after some calls, each unit's accepted events, and the replies to these.
 pub record History (V : Type 0) : Type 0 where
   pub contents : Contents V
   pub log : Logs
@@ -72,7 +72,7 @@ module _ {V : Type 0} (M : Payload V) where
     refusal s u (Receive m) = ask (nat_lt u z.units) NoSuchUnit (ask (nat_lt m z.messages) NoSuchMessage (result_err (handled_post (s.posts m) Receiving)))
     refusal s u (Mark l) = ask (nat_lt u z.units) NoSuchUnit (ask (z.fits u l) NoSuchLabel (ask (nat_lt (s.rows u u).clock z.limit) ClockFull None))
 
-    -- The state after an accepted call: a send copies the unit's row to the message's, a receipt merges the message's row into
+    -- The contents after an accepted call: a send copies the unit's row to the message's, a receipt merges the message's row into
     -- the unit's, a mark rewrites the unit's row.
     abbrev pub contents_after : Contents V → ℕ → Event → Contents V
     contents_after s u (Send m) = record { rows = s.rows; message_rows = put s.message_rows m (s.rows u); posts = put s.posts m (result_unwrap_or (handled_post (s.posts m) Sending) (s.posts m)) }
@@ -81,15 +81,15 @@ module _ {V : Type 0} (M : Payload V) where
 
     -- The answer to an accepted call, from the unit's row before it and after it.
     abbrev pub answer_to : ℕ → Event → (ℕ → Cell V) → (ℕ → Cell V) → Answer V
-    answer_to u (Send m) before history_after = Sent (history_after u).clock
-    answer_to u (Receive m) before history_after = Received (history_after u).clock
-    answer_to u (Mark l) before history_after = mark_answer (history_after u).clock (those (λ j. (before j).flag) z.units) (history_after u).value
+    answer_to u (Send m) before after = Sent (after u).clock
+    answer_to u (Receive m) before after = Received (after u).clock
+    answer_to u (Mark l) before after = mark_answer (after u).clock (those (λ j. (before j).flag) z.units) (after u).value
 
     -- the reply to an accepted call
     abbrev pub reply : ℕ → Event → (ℕ → Cell V) → (ℕ → Cell V) → Reply V
-    reply u e before history_after = record { answer = answer_to u e before history_after; stamp = λ v. (history_after v).clock }
+    reply u e before after = record { answer = answer_to u e before after; stamp = λ v. (after v).clock }
 
-    -- The state after a call, taken or refused: a refused call changes nothing.
+    -- The contents after a call, taken or refused: a refused call changes nothing.
     abbrev pub next_contents : Contents V → Call → Contents V
     next_contents s c = if_taken (refusal s c.unit c.event) (contents_after s c.unit c.event) s
 
@@ -97,12 +97,12 @@ module _ {V : Type 0} (M : Payload V) where
     abbrev pub outcome : Contents V → Call → Result (Answer V) Refusal
     outcome s c = answer_or_refusal (refusal s c.unit c.event) (answer_to c.unit c.event (s.rows c.unit) ((contents_after s c.unit c.event).rows c.unit))
 
-    -- What each call of a list is answered, or why it is refused, from a state on.
+    -- What each call of a list is answered, or why it is refused, from some contents on.
     abbrev pub outcomes_from : Contents V → List Call → List (Result (Answer V) Refusal)
     outcomes_from s [] = []
     outcomes_from s (c ∷ cs) = outcome s c ∷ outcomes_from (next_contents s c) cs
 
-    -- the state after a list of calls, taken or refused, from a state on
+    -- the contents after a list of calls, taken or refused, from some contents on
     abbrev pub contents_from : Contents V → List Call → Contents V
     contents_from s [] = s
     contents_from s (c ∷ cs) = contents_from (next_contents s c) cs

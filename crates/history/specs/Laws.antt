@@ -1,5 +1,5 @@
 -- The law over runs: what is true of every list of calls handed to a new board. Of measures it says nothing.
-use Rattle.std.specs.Prelude.{◌≡◌, ℕ, suc, ◌⊎◌, ◌↔◌, if◌then◌else◌, List, [], ◌∷◌, ◌++◌, map, Some, None, Ok, Err, Result, ◌==◌}
+use Rattle.std.specs.Prelude.{◌≡◌, ℕ, suc, ◌↔◌, if◌then◌else◌, List, [], ◌∷◌, ◌++◌, map, Some, None, Ok, Err, Result, ◌==◌}
 use Rattle.bitset.specs.Sets.{Member}
 use Rattle.history.specs.declared.precedence.Precedence.{Precedence}
 use Rattle.history.specs.declared.refusals.Refusal.{Refusal}
@@ -22,7 +22,7 @@ use Rattle.history.specs.Precedence.{Ordered, stamp_order}
 abbrev pub run_events : {V : Type 0} → Payload V → Size → List Call → Events
 run_events M z cs = at (run M z cs).log
 
--- What the accepted mark at position i of unit u was told, in terms of the events.
+-- What the accepted mark at position i of unit u was answered, in terms of the events.
 pub record Answered {V : Type 0} (M : Payload V) (z : Size) (cs : List Call) (u i : ℕ) : Type 0 where
   pub clock : ℕ
   pub predecessors : ℕ
@@ -36,7 +36,7 @@ pub record Answered {V : Type 0} (M : Payload V) (z : Size) (cs : List Call) (u 
   -- the unit's clocks just after it are its stamp
   pub stamp_is : Stamp (run_events M z cs) u i stamp
 
--- Each accepted mark was told its own number and the units of its immediate predecessors.
+-- Each accepted mark was answered its own number and the units of its immediate predecessors.
 abbrev pub MarksAnswered : Type 0 → Type 0
 MarksAnswered V =
     (M : Payload V) (z : Size) (cs : List Call) (u i l : ℕ) → run_events M z cs u i ≡ Some (Mark l) → Answered M z cs u i
@@ -60,7 +60,7 @@ answers_of u (c ∷ cs) [] = []
 answers_of u (c ∷ cs) (Ok a ∷ os) = if u == c.unit then a ∷ answers_of u cs os else answers_of u cs os
 answers_of u (c ∷ cs) (Err e ∷ os) = answers_of u cs os
 
--- Each unit was told the answers to its accepted calls, in the order handed in.
+-- The replies that each unit got are the answers to its accepted calls, in the order handed in.
 abbrev pub RepliesAreAnswers : Type 0 → Type 0
 RepliesAreAnswers V = (M : Payload V) (z : Size) (cs : List Call) (u : ℕ) → map (λ r. r.answer) ((run M z cs).replies u) ≡ answers_of u cs (outcomes M z cs)
 
@@ -109,7 +109,7 @@ StampsDecide =
     → (p q : ℕ → ℕ) → Stamp (events_in cs) u i p → Stamp (events_in cs) v j q
     → (o : Precedence) → (stamp_order p q u v ≡ o) ↔ Ordered (events_in cs) u i v j o
 
--- Two states differ in nothing but what their cells carry.
+-- Two contents differ in nothing but what their cells carry.
 pub record SameButValues {V W : Type 0} (s : Contents V) (t : Contents W) : Type 0 where
   pub clocks : (u j : ℕ) → (s.rows u j).clock ≡ (t.rows u j).clock
   pub flags : (u j : ℕ) → (s.rows u j).flag ≡ (t.rows u j).flag
@@ -119,10 +119,10 @@ pub record SameButValues {V W : Type 0} (s : Contents V) (t : Contents W) : Type
 
 -- What cells carry changes nothing else, whatever two boards carry.
 pub record IgnoresPayload {V W : Type 0} (M : Payload V) (N : Payload W) (z : Size) : Type 0 where
-  -- in states that differ in nothing else, a call is taken by both boards or refused by both for one reason, and leaves such states
+  -- in contents that differ in nothing else, a call is taken by both boards or refused by both for one reason, and leaves such contents
   pub refusals : (s : Contents V) (t : Contents W) → SameButValues s t → (u : ℕ) (e : Event) → refusal M z s u e ≡ refusal N z t u e
   pub step : (s : Contents V) (t : Contents W) → SameButValues s t → (c : Call) → SameButValues (next_contents M z s c) (next_contents N z t c)
-  -- so the same calls lead to the same logs, and to such states
+  -- so the same calls lead to the same logs, and to such contents
   pub logs : (cs : List Call) (u : ℕ) → (run M z cs).log u ≡ (run N z cs).log u
   pub states : (cs : List Call) → SameButValues (run M z cs).contents (run N z cs).contents
 

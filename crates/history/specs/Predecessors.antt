@@ -5,7 +5,7 @@ use Rattle.history.specs.Events.{Events}
 use Rattle.history.specs.HappenedBefore.{Before, Immediate}
 use Rattle.history.specs.Marks.{IsMark}
 
--- The row r of unit u, just before the mark at place i, shows the immediate predecessors of this mark with right values, where
+-- The row r of unit u, just before the mark at position i, shows the immediate predecessors of this mark with right values, where
 -- W v j x says that x is a right value for the mark at position j of unit v.
 pub record ShowsPredecessors {V : Type 0} (ev : Events) (W : ℕ → ℕ → V → Type 0) (u i : ℕ) (r : ℕ → Cell V) : Type 0 where
   -- a flagged cell has a right value for an immediate predecessor of its unit

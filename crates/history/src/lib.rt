@@ -1,6 +1,7 @@
-//! What the units of a handset did and in which causal order, the rules by which a board follows it, and the law over runs. Nearly all of it is in
-//! specs/ and proofs/; in code stand only the types that the rules name: the states of a message, the refusals and the orders of two marks.
-//! Stands on `bitset`.
+//! What the units of a handset did and in which causal order, the rules by which a board follows it, and the law over runs.
+//!
+//! Nearly all of it is in specs/ and proofs/. In code stand the types that the rules and the code share: events, calls and answers, cells of rows, what
+//! becomes of a message, refusals, and the orders of two marks. Stands on `bitset`.
 #![tactic(auto)]
 
 pub mod calls;

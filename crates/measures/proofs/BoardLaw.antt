@@ -2,7 +2,7 @@
 -- A board just made has been handed no call, and each call that follows the rules is one more, so whatever list of calls it was handed, its
 -- answers are the outcomes of a run and its memory shows the state of the run. Each clause of the law is then one on runs, read off the
 -- answers and the memory.
-use Rattle.std.proofs.Common.{◌≡◌, ℕ, ◌+◌, ◌*◌, ◌-◌, ◌<◌, ◌≤◌, Bool, true, false, ◌⊎◌, List, [], ◌∷◌, ◌++◌, length, map, take, set, get_or, Some, None, Ok, Err, Result, IsTrue, sym, refl, ap, ap₂, ◌∙◌, subst, inl, inr, ⊎_elim, suc, arith, rules}
+use Rattle.std.proofs.Common.{◌≡◌, ℕ, ◌+◌, ◌*◌, ◌-◌, ◌<◌, ◌≤◌, Bool, true, false, ◌⊎◌, List, [], ◌∷◌, ◌++◌, length, take, set, get_or, Some, None, Ok, Err, Result, IsTrue, sym, refl, ap, ap₂, ◌∙◌, subst, inl, inr, ⊎_elim, suc, arith, rules}
 use Rattle.std.specs.List.{slice_get}
 use Rattle.std.specs.Option.{option_map}
 use Rattle.std.specs.Prelude.{slice_index, slice_index_or}

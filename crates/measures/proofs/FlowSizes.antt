@@ -8,7 +8,7 @@ use Rattle.history.specs.Flows.{Longest, letter_at, word}
 use Rattle.measures.specs.declared.spans.Lengths.{Lengths}
 use Rattle.measures.specs.Words.{Word}
 use Rattle.measures.specs.Measures.{Spelled, word_value_from, word_value, join_of}
-use Rattle.measures.specs.Counts.{flow_count, flow_count_lawful, Counted, MarksCounted}
+use Rattle.measures.specs.Counts.{IsCount, flow_count, flow_count_lawful, Counted, MarksCounted}
 use Rattle.measures.specs.Laws.{join_over, accepted_events, AtMarks}
 use Rattle.measures.specs.Spans.{lengths, longer, span, span_lawful, Spanned, MarksSpanned}
 use Rattle.measures.proofs.BoardLaw.{at_answers}
@@ -28,7 +28,7 @@ count_joined labels c one v (f ∷ fs) h = count_joined labels c one (min (v + c
 flows_counted : (labels : ℕ) → (0 < labels) × (labels ≤ 64) → AtMarks (flow_count labels) Counted
 flows_counted labels in_range n k limit cs u i l e =
     let m = flow_count labels in
-    let v = valued m (λ v. v < 2 ^ 32) (flow_count_lawful labels in_range) n k limit cs u i l e in
+    let v = valued m IsCount (flow_count_lawful labels in_range) n k limit cs u i l e in
     let ev = accepted_events m n k limit cs in
     let one = count_carried labels 1 (word ev v.flow) in
     let is : v.answered.value ≡ min (length (v.flow ∷ v.flows)) 4294967295 =

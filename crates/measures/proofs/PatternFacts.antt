@@ -15,11 +15,11 @@ use Rattle.measures.specs.Acceptance.{state_after, accepts, Any, Recognizes}
 use Rattle.measures.proofs.AcceptanceFacts.{carried_one, only_member, meets_one, within_one}
 
 -- the zeros after a table change no entry
-padded_at : (n : ℕ) (t : List ℕ) (i : ℕ) → get_or (with_zeros n t) i 0 ≡ get_or t i 0
-padded_at n t i = grind (arith, common_steps)
+with_zeros_at : (n : ℕ) (t : List ℕ) (i : ℕ) → get_or (with_zeros n t) i 0 ≡ get_or t i 0
+with_zeros_at n t i = grind (arith, common_steps)
 
-pub padded_complete : (n bound count : ℕ) (t table : List ℕ) → table ≡ with_zeros n t → ((k : ℕ) → k < count → get_or t k 0 < bound) → (k : ℕ) → k < count → get_or table k 0 < bound
-padded_complete n bound count t table is below k h = rw (is, padded_at n t k) (below k h)
+pub with_zeros_complete : (n bound count : ℕ) (t table : List ℕ) → table ≡ with_zeros n t → ((k : ℕ) → k < count → get_or t k 0 < bound) → (k : ℕ) → k < count → get_or table k 0 < bound
+with_zeros_complete n bound count t table is below k h = rw (is, with_zeros_at n t k) (below k h)
 
 module _ (b : List ℕ) (states labels start finals : ℕ) (table : List ℕ) (parts : PatternOf b states labels start finals table) (in_range : (0 < labels) × (labels ≤ 64)) (begins : start < states) (complete : (k : ℕ) → k < states * labels → get_or table k 0 < states) where
   state_read : (w : Word) → leads (next labels table) start w ≡ state_after b w
@@ -27,7 +27,7 @@ module _ (b : List ℕ) (states labels start finals : ℕ) (table : List ℕ) (p
       ap (λ (d : Letter → ℕ → ℕ). leads d start w)
       (fun_ext (λ l. fun_ext (λ q.
       ap (λ (t : List ℕ). get_or t (q * labels + l) 0) parts.table_is
-      ∙ padded_at 4096 (table_in b) (q * labels + l)
+      ∙ with_zeros_at 4096 (table_in b) (q * labels + l)
       ∙ ap (λ (a : ℕ). get_or (table_in b) (q * a + l) 0) parts.labels_are)))
       ∙ ap (λ (q : ℕ). leads (next (labels_in b) (table_in b)) q w) parts.start_is
 

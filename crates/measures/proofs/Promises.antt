@@ -96,9 +96,9 @@ pub below_bound : (bound : ℕ) (xs : List ℕ) → first_over bound xs ≡ None
 below_bound bound xs none = TableFacts.below_bound bound xs none
 
 -- Zeros after a table leave its entries below the bound.
-pub padded_complete : (n bound count : ℕ) (t table : List ℕ) → table ≡ with_zeros n t → ((k : ℕ) → k < count → get_or t k 0 < bound)
+pub with_zeros_complete : (n bound count : ℕ) (t table : List ℕ) → table ≡ with_zeros n t → ((k : ℕ) → k < count → get_or t k 0 < bound)
     → (k : ℕ) → k < count → get_or table k 0 < bound
-padded_complete n bound count t table is below = PatternFacts.padded_complete n bound count t table is below
+with_zeros_complete n bound count t table is below = PatternFacts.with_zeros_complete n bound count t table is below
 
 -- A call that keeps the loans of a board's memory, and what lies beyond the board, keeps its room.
 pub room_kept : {V : Type 0} (start : V) (n k : ℕ) (old new : Memory V) → SameLoans old new → SameBeyond start n k old new

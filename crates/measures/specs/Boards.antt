@@ -60,7 +60,7 @@ module _ {V : Type 0} (m : Meaning V) (n k : ℕ) where
     pub states : (p : ℕ) → state_answer k true a.posts p ≡ state_answer k true b.posts p
     pub left : left_answer k true a.posts ≡ left_answer k true b.posts
 
--- P is true, for every list of calls handed to a board just made, of each accepted mark (the events, its unit and place) and of the value that
+-- P is true, for every list of calls handed to a board just made, of each accepted mark (the events, its unit and position) and of the value that
 -- it was answered.
 abbrev pub AtAnswers : {V : Type 0} → Meaning V → (Events → ℕ → ℕ → V → Type 0) → Type 0
 AtAnswers {V} m P =

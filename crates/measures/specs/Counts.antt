@@ -15,7 +15,7 @@ flow_count n = record { labels = n; start = 1; step = λ v _. v; join = λ a b. 
 
 -- a number up to the cap
 abbrev pub IsCount : ℕ → Type 0
-IsCount v = v < 2 ^ 32
+IsCount v = v ≤ most_flows
 
 -- it keeps the laws on the numbers up to its cap
 pub flow_count_lawful : (n : ℕ) → (0 < n) × (n ≤ 64) → Lawful (flow_count n) IsCount

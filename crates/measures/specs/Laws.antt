@@ -20,7 +20,7 @@ join_over m ev f fs = join_of m (word_value m (word ev f)) (map (λ g. word_valu
 abbrev pub accepted_events : {V : Type 0} → Meaning V → (n k limit : ℕ) → List Call → Events
 accepted_events m n k limit cs = run_events (measured_payload m n) (measured_size m n k limit) cs
 
--- What the accepted mark at position i of unit u was told; its value is the join of the measure along the longest flows that end there.
+-- What the accepted mark at position i of unit u was answered; its value is the join of the measure along the longest flows that end there.
 pub record Valued {V : Type 0} (m : Meaning V) (n k limit : ℕ) (cs : List Call) (u i : ℕ) : Type 0 where
   pub answered : Answered (measured_payload m n) (measured_size m n k limit) cs u i
   -- a list of all longest flows that end there, each once, and no other
@@ -49,7 +49,7 @@ pub record TellsOfFlows (good : Word → Type 0) (some all : Bool) (ev : Events)
   pub some_flow : IsTrue some ↔ ((f : List Position) × Longest ev u i f × good (word ev f))
   pub all_flows : IsTrue all ↔ ((f : List Position) → Longest ev u i f → good (word ev f))
 
--- P is true, in every run, of each accepted mark (the events, its unit and place) and of the value that it was told.
+-- P is true, in every run, of each accepted mark (the events, its unit and position) and of the value that it was answered.
 abbrev pub AtMarks : {V : Type 0} → Meaning V → (Events → ℕ → ℕ → V → Type 0) → Type 0
 AtMarks m P =
     (n k limit : ℕ) (cs : List Call) (u i l : ℕ) → accepted_events m n k limit cs u i ≡ Some (Mark l)

@@ -13,10 +13,10 @@ most_entries = 4096
 abbrev pub most_flows : ℕ
 most_flows = 4294967295
 
--- A span's ends go up to this number, the largest of 16 bits.
+-- A span's lengths go up to this number, the largest of 16 bits.
 abbrev pub most_length : ℕ
 most_length = 65535
 
--- The largest limit of a span: above it the capped ends could not tell good words from others.
+-- The largest limit of a span: above it the capped lengths could not tell good words from others.
 abbrev pub most_limit : ℕ
 most_limit = 65534

@@ -1,6 +1,7 @@
 -- What a measure is, its laws, and what it makes of words and of lists of values.
 use Rattle.std.specs.Prelude.{◌≡◌, ℕ, ◌<◌, ◌≤◌, Bool, List, [], ◌∷◌, map, nat_lt}
 use Rattle.std.specs.List.{AllByRecursion}
+use Rattle.measures.specs.Limits.{most_labels}
 use Rattle.measures.specs.Words.{Letter, Word, letter_of, label_of, Labels}
 
 -- A measure offers a number of labels, a start value, a step from a value by a letter, and a join of two values.
@@ -24,7 +25,7 @@ Spelled m w = Labels m.labels w
 
 -- The laws of a measure, on the values that it admits.
 pub record Lawful {V : Type 0} (m : Meaning V) (admits : V → Type 0) : Type 0 where
-  pub label_range : (0 < m.labels) × (m.labels ≤ 64)
+  pub label_range : (0 < m.labels) × (m.labels ≤ most_labels)
   pub start_admitted : admits m.start
   pub step_admitted : (a : V) (l : Letter) → admits a → admits (m.step a l)
   pub join_admitted : (a b : V) → admits a → admits b → admits (m.join a b)

@@ -18,11 +18,9 @@ impl FlowCount {
     /// A flow count over that many labels. Refuses a label count outside 1 to 64 (16). Whatever calls a board was handed, the value answered at a
     /// mark is the number of the longest flows that end there (`runs`).
     pub fn new(labels: u8) -> Result<FlowCount, Refusal>
-        ensures answer {
-            MatchResult result
-                (λ m. (flow_count_refusal labels ≡ None) × (⟦<FlowCount as Measure>⟧.meaning m ≡ flow_count labels))
-                (λ e. flow_count_refusal labels ≡ Some e)
-        }
+        ensures answer { MatchResult result
+            (λ m. (flow_count_refusal labels ≡ None) × (⟦<FlowCount as Measure>⟧.meaning m ≡ flow_count labels))
+            (λ e. flow_count_refusal labels ≡ Some e) }
         ensures runs { IfOk result (λ m. MarksCounted (⟦<FlowCount as Measure>⟧.meaning m)) }
     {
         let labels = Count::new(labels).ok_or(Refusal::LabelCount)?;

@@ -23,6 +23,7 @@ mod tables;
 
 pub use boards::{Measured, hand_judged, judged_answer, mark_judged};
 pub use counts::FlowCount;
+use history::Letter;
 pub use judges::{Judge, JudgedValue, Verdict, verdicts};
 pub use marking::mark_value;
 pub use patterns::Pattern;
@@ -30,8 +31,6 @@ pub use refusals::{Fault, Refusal};
 pub use relabellings::Relabelling;
 pub use replays::replay;
 pub use spans::{Lengths, Span};
-
-use history::Letter;
 
 /// A measure: a number of labels, a start value, a step from a value by a letter and a join of two values, lawful on the values that it admits. A
 /// step by a letter that it does not have leaves the value. None of the four refuses or changes anything.

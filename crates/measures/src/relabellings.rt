@@ -8,7 +8,7 @@ ghost use Rattle.measures.specs.RelabellingLaws.{relabelled_lawful};
 use super::Measure;
 use super::judges::Judge;
 use super::refusals::{Fault, Refusal};
-use super::sizes::Count;
+use super::sizes::{Count, MOST_LABELS};
 use super::tables::{table, with_zeros};
 use history::Letter;
 use text::Cursor;
@@ -19,7 +19,7 @@ const TAG: u8 = 0x30;
 // The inner label of each label; the first `count` entries are used. Its memory is fixed, since nothing here allocates.
 #[derive(Clone, Copy)]
 struct LabelTable {
-    entries: [u8; 64],
+    entries: [u8; MOST_LABELS as usize],
     count: Count,
 }
 
@@ -42,13 +42,11 @@ impl LabelTable {
 
     // The label count of the table where the cursor stands.
     fn read_count(cursor: Cursor<'_>) -> Result<Count, Fault>
-        ensures {
-            let fault = relabelling_head_fault cursor.entry.input.now cursor.entry.place in
+        ensures { let fault = relabelling_head_fault cursor.entry.input.now cursor.entry.place in
             MatchResult result
-                (λ n. (fault ≡ None) × (n.number ≡ relabelling_labels_in cursor.entry.input.now cursor.entry.place)
-                    × (cursor.entry.place + 2 ≤ length cursor.entry.input.now))
-                (λ f. fault ≡ Some f)
-        }
+            (λ n. (fault ≡ None) × (n.number ≡ relabelling_labels_in cursor.entry.input.now cursor.entry.place)
+            × (cursor.entry.place + 2 ≤ length cursor.entry.input.now))
+            (λ f. fault ≡ Some f) }
     {
         match cursor.bytes() {
             Some([TAG]) => Err(Fault::at(Refusal::TableTooShort, cursor.input.len())),
@@ -61,14 +59,12 @@ impl LabelTable {
 
     // The table where the cursor stands.
     fn read(cursor: Cursor<'_>, n: u8) -> Result<LabelTable, Fault>
-        ensures {
-            let fault = relabelling_fault cursor.entry.input.now cursor.entry.place n in
+        ensures { let fault = relabelling_fault cursor.entry.input.now cursor.entry.place n in
             MatchResult result
-                (λ t. (fault ≡ None)
-                    × (t.count.number ≡ relabelling_labels_in cursor.entry.input.now cursor.entry.place)
-                    × (t.entries ≡ with_zeros most_labels (entries_in cursor.entry.input.now cursor.entry.place)))
-                (λ f. fault ≡ Some f)
-        }
+            (λ t. (fault ≡ None)
+            × (t.count.number ≡ relabelling_labels_in cursor.entry.input.now cursor.entry.place)
+            × (t.entries ≡ with_zeros most_labels (entries_in cursor.entry.input.now cursor.entry.place)))
+            (λ f. fault ≡ Some f) }
     {
         let count = Self::read_count(cursor)?;
         let after = Cursor {
@@ -89,18 +85,14 @@ impl<M: Measure> Relabelling<M> {
     pub fn read(cursor: Cursor<'_>, inner: M) -> Result<Relabelling<M>, Fault>
     where
         M: Drop,
-        ensures answer {
-            let labels = (M.meaning inner).labels in
+        ensures answer { let labels = (M.meaning inner).labels in
             let fault = relabelling_fault cursor.entry.input.now cursor.entry.place labels in
             MatchResult result
-                (λ r. (fault ≡ None) × IsRelabellingOf cursor.entry.input.now cursor.entry.place inner r)
-                (λ f. fault ≡ Some f)
-        }
-        ensures meaning {
-            let entries = with_zeros most_labels (entries_in cursor.entry.input.now cursor.entry.place) in
+            (λ r. (fault ≡ None) × IsRelabellingOf cursor.entry.input.now cursor.entry.place inner r)
+            (λ f. fault ≡ Some f) }
+        ensures meaning { let entries = with_zeros most_labels (entries_in cursor.entry.input.now cursor.entry.place) in
             let count = relabelling_labels_in cursor.entry.input.now cursor.entry.place in
-            IfOk result (λ r. ⟦<Relabelling<M> as Measure>⟧.meaning r ≡ relabelling entries count (M.meaning inner))
-        }
+            IfOk result (λ r. ⟦<Relabelling<M> as Measure>⟧.meaning r ≡ relabelling entries count (M.meaning inner)) }
     {
         let table = LabelTable::read(cursor, inner.labels())?;
         Ok(Relabelling { table, inner })

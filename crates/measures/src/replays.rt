@@ -20,25 +20,17 @@ fn play<M: Measure>(
     calls: &[Call],
     answers: &mut [Result<Answer<M::Value>, Refusal>],
 ) -> usize
-    requires room {
-        let b = setup_of board.now in
-        has_room b.units b.messages (memory clocks.old flags.old values.old posts.old) ≡ true
-    }
-    requires new_board {
-        let b = setup_of board.now in
+    requires room { let b = setup_of board.now in
+        has_room b.units b.messages (memory clocks.old flags.old values.old posts.old) ≡ true }
+    requires new_board { let b = setup_of board.now in
         Played (M.meaning (payload_of board.now).measure) b.units b.messages [] []
-            (memory clocks.old flags.old values.old posts.old)
-    }
-    ensures played {
-        let b = setup_of board.now in
+        (memory clocks.old flags.old values.old posts.old) }
+    ensures played { let b = setup_of board.now in
         Replayed (M.meaning (payload_of board.now).measure) b.units b.messages calls.now result
-            (memory clocks.old flags.old values.old posts.old)
-            (memory clocks.new flags.new values.new posts.new) answers.old answers.new
-    }
-    ensures loans {
-        SameLoans (memory clocks.old flags.old values.old posts.old)
-            (memory clocks.new flags.new values.new posts.new)
-    }
+        (memory clocks.old flags.old values.old posts.old)
+        (memory clocks.new flags.new values.new posts.new) answers.old answers.new }
+    ensures loans { SameLoans (memory clocks.old flags.old values.old posts.old)
+        (memory clocks.new flags.new values.new posts.new) }
 {
     let count = calls.len().min(answers.len());
     for i in 0..count {
@@ -68,16 +60,12 @@ pub fn replay<M: Measure>(
 ) -> Result<usize, Refusal>
 where
     M: Drop,
-    ensures replayed {
-        ReplayAnswer (M.meaning measure) units messages calls.now
-            (memory clocks.old flags.old values.old posts.old)
-            (memory clocks.new flags.new values.new posts.new) answers.old answers.new result
-    }
+    ensures replayed { ReplayAnswer (M.meaning measure) units messages calls.now
+        (memory clocks.old flags.old values.old posts.old)
+        (memory clocks.new flags.new values.new posts.new) answers.old answers.new result }
     ensures law { LawOfBoards (M.meaning measure) (M.admits measure) }
-    ensures loans {
-        SameLoans (memory clocks.old flags.old values.old posts.old)
-            (memory clocks.new flags.new values.new posts.new)
-    }
+    ensures loans { SameLoans (memory clocks.old flags.old values.old posts.old)
+        (memory clocks.new flags.new values.new posts.new) }
 {
     let board = Board::make(
         Measured { measure },

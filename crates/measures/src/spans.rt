@@ -34,13 +34,11 @@ impl Span {
     /// calls a board was handed, the value answered at a mark has the numbers of marks of the shortest and of the longest of the flows that end there
     /// (`runs`).
     pub fn new(labels: u8, limit: u16) -> Result<Span, Refusal>
-        ensures answer {
-            MatchResult result
-                (λ m. (span_refusal labels limit ≡ None)
-                    × IsSpan labels limit (⟦<Span as Measure>⟧.meaning m) (⟦<Span as Judge>⟧.some_of m)
-                        (⟦<Span as Judge>⟧.all_of m) (⟦<Span as Judge>⟧.good m))
-                (λ e. span_refusal labels limit ≡ Some e)
-        }
+        ensures answer { MatchResult result
+            (λ m. (span_refusal labels limit ≡ None)
+            × IsSpan labels limit (⟦<Span as Measure>⟧.meaning m) (⟦<Span as Judge>⟧.some_of m)
+            (⟦<Span as Judge>⟧.all_of m) (⟦<Span as Judge>⟧.good m))
+            (λ e. span_refusal labels limit ≡ Some e) }
         ensures runs { IfOk result (λ m. MarksSpanned (⟦<Span as Measure>⟧.meaning m)) }
     {
         let labels = Count::new(labels).ok_or(Refusal::LabelCount)?;

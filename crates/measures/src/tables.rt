@@ -19,13 +19,11 @@ fn first_too_large(table: &[u8], bound: u8) -> Option<usize>
 
 // The table of `count` entries where the cursor stands; a fault in it is told at its place in the whole input.
 pub(crate) fn table<'a>(cursor: Cursor<'a>, count: usize, bound: u8) -> Result<&'a [u8], Fault>
-    ensures {
-        let fault = table_fault cursor.entry.input.now cursor.entry.place count bound in
+    ensures { let fault = table_fault cursor.entry.input.now cursor.entry.place count bound in
         MatchResult result
-            (λ t. (fault ≡ None) × (t.now ≡ take count (drop cursor.entry.place cursor.entry.input.now))
-                × (length t.now ≡ count) × ((k : ℕ) → k < count → slice_index t.now k < bound))
-            (λ f. fault ≡ Some f)
-    }
+        (λ t. (fault ≡ None) × (t.now ≡ take count (drop cursor.entry.place cursor.entry.input.now))
+        × (length t.now ≡ count) × ((k : ℕ) → k < count → slice_index t.now k < bound))
+        (λ f. fault ≡ Some f) }
 {
     let Some(table) = cursor.first(count) else {
         return Err(Fault::at(Refusal::TableTooShort, cursor.input.len()));

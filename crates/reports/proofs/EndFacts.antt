@@ -17,7 +17,7 @@ use Rattle.history.specs.Runs.{Size, Possible, Continues, Run, silence, with_ent
 use Rattle.history.specs.declared.Call.{Call}
 use Rattle.history.specs.Board.{Contents, new_contents, new_history, next_contents, outcome, outcomes_from, run, accepted_calls, contents_from}
 use Rattle.history.specs.declared.calls.Answer.{Answer}
-use Rattle.history.proofs.Promises.{accepts_runs, exactly_like, travels_stated}
+use Rattle.history.proofs.Promises.{accepts_runs, exactly_like, on_its_way_stated}
 use Rattle.causality.specs.Boards.{left_among}
 use Rattle.measures.specs.Measures.{Meaning}
 use Rattle.measures.specs.Worths.{measured_payload, measured_size}
@@ -85,7 +85,7 @@ module _ {V : Type 0} (M : Payload V) (z : Size) where
       logs = fun_ext (λ u. (accepts_runs M z cs).logged u ∙ ap (λ (ds : List Call). by_unit ds u) whole)
 
       stated : (p : ℕ) → (is_on_its_way ((run M z cs).contents.posts p) ≡ true) ↔ (IsSent (at (by_unit cs)) p × (IsReceived (at (by_unit cs)) p → ⊥))
-      stated p = travels_stated (at (by_unit cs)) p _ (subst (λ (log : Logs). Stated (at log) p ((run M z cs).contents.posts p)) logs ((accepts_runs M z cs).posts_stated p))
+      stated p = on_its_way_stated (at (by_unit cs)) p _ (subst (λ (log : Logs). Stated (at log) p ((run M z cs).contents.posts p)) logs ((accepts_runs M z cs).posts_stated p))
 
       below : (p : ℕ) → IsSent (at (by_unit cs)) p → p < z.messages
       below p (u, i, e) = sent_below z silence cs (subst (λ (ds : List Call). Run z ds) whole (accepts_runs M z cs).accepted_run) u i p e

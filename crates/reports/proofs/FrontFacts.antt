@@ -4,7 +4,7 @@ use Rattle.std.specs.Option.{option_map, option_or}
 use Rattle.std.proofs.lemmas.Bool.{and_parts, leb-true, ltb-true}
 use Rattle.measures.specs.Formats.{states_in, labels_in, start_in, table_in, relabelling_labels_in, with_zeros, first_over, over_fault, table_fault, head_fault, pattern_fault, relabelling_head_fault, relabelling_fault}
 use Rattle.measures.specs.Refusals.{is_count}
-use Rattle.measures.proofs.Promises.{below_bound, padded_complete}
+use Rattle.measures.proofs.Promises.{below_bound, with_zeros_complete}
 use Rattle.reports.specs.declared.faults.Fault.TheVariants.{Pattern, Relabelling}
 use Rattle.text.specs.Inputs.{most_bytes}
 use Rattle.reports.specs.Reports.{relabelling_at, front_fault}
@@ -65,7 +65,7 @@ module _ (b : List ℕ) (sound : front_fault b ≡ None) where
   -- Each entry of the table is a state.
   pub table_below : (k : ℕ) → k < states_in b * labels_in b → get_or (with_zeros 4096 (table_in b)) k 0 < states_in b
   table_below =
-      padded_complete 4096 (states_in b) (states_in b * labels_in b) (table_in b) (with_zeros 4096 (table_in b)) refl
+      with_zeros_complete 4096 (states_in b) (states_in b * labels_in b) (table_in b) (with_zeros 4096 (table_in b)) refl
       (table_sound b 12 (states_in b * labels_in b) (states_in b) parts_sound.1).1
 
   -- The relabelling has 1 to 64 labels.

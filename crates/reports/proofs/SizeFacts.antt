@@ -1,7 +1,7 @@
 -- What units are answered does not depend on the size of the board.
 -- Both boards log the same events. A send or a receipt is answered by the events alone, and so is each part of a mark's answer: its clock counts
 -- marks, its set has the immediate predecessors, and its value joins the longest flows, listed by either board.
-use Rattle.std.proofs.Common.{◌≡◌, ℕ, suc, ◌⊎◌, List, [], ◌∷◌, map, length, Some, refl, sym, ap, ap₂, ◌∙◌, subst, inl, inr}
+use Rattle.std.proofs.Common.{◌≡◌, ℕ, suc, List, [], ◌∷◌, map, length, Some, refl, sym, ap, ap₂, ◌∙◌, subst}
 use Rattle.std.specs.List.{slice_get}
 use Rattle.std.specs.Option.{option_map}
 use Rattle.std.proofs.Math.Path.{fun_ext}

@@ -16,6 +16,7 @@ use Rattle.history.specs.Limits.{most_marks}
 use Rattle.causality.specs.Boards.{make_refusal}
 use Rattle.measures.specs.Acceptance.{state_after, accepts}
 use Rattle.measures.specs.Formats.{labels_in, entries_in, with_zeros}
+use Rattle.measures.specs.Limits.{most_labels}
 use Rattle.measures.specs.Laws.{TellsOfFlows}
 use Rattle.measures.specs.Relabellings.{translation}
 use Rattle.measures.specs.Words.{Word}
@@ -37,7 +38,7 @@ size_in b = measured_size (judge_in b) (transcript_in b).units (transcript_in b)
 
 -- a word of the recording's labels in the pattern's
 abbrev pub in_pattern : List ℕ → Word → Word
-in_pattern b w = translation (with_zeros 64 (entries_in b (relabelling_at b))) (labels_in b) w
+in_pattern b w = translation (with_zeros most_labels (entries_in b (relabelling_at b))) (labels_in b) w
 
 -- how many of the calls are marks
 abbrev pub marks_among : List Call → ℕ

@@ -4,6 +4,7 @@ use Rattle.std.specs.Option.{option_map, option_or}
 use Rattle.bitset.specs.Sets.{meets, within}
 use Rattle.measures.specs.Automata.{state_sets}
 use Rattle.measures.specs.Formats.{states_in, labels_in, start_in, finals_in, table_in, relabelling_labels_in, entries_in, with_zeros, pattern_size, pattern_fault, relabelling_fault}
+use Rattle.measures.specs.Limits.{most_entries, most_labels}
 use Rattle.measures.specs.Measures.{Meaning}
 use Rattle.measures.specs.Relabellings.{relabelling}
 use Rattle.text.specs.Inputs.{most_bytes}
@@ -32,8 +33,8 @@ front_fault b =
 -- the measure of the pattern under the relabelling
 abbrev pub judge_in : List ℕ → Meaning ℕ
 judge_in b =
-    relabelling (with_zeros 64 (entries_in b (relabelling_at b))) (relabelling_labels_in b (relabelling_at b))
-    (state_sets (states_in b) (labels_in b) (start_in b) (with_zeros 4096 (table_in b)))
+    relabelling (with_zeros most_labels (entries_in b (relabelling_at b))) (relabelling_labels_in b (relabelling_at b))
+    (state_sets (states_in b) (labels_in b) (start_in b) (with_zeros most_entries (table_in b)))
 
 -- whether some flow is good, by the set of states that flows lead to: some of them is final
 abbrev pub some_in : List ℕ → ℕ → Bool

@@ -56,12 +56,10 @@ fn hand_for_line<J: Judge<Value = u64>>(
     posts: &mut [Post],
     call: Call,
 ) -> Result<Option<MarkLine>, Reason>
-    ensures {
-        let judge = (payload_of board.now).measure in
+    ensures { let judge = (payload_of board.now).measure in
         AnswersCall (J.Judge.some_of judge) (J.Judge.all_of judge) (setup_of board.now) call
-            (memory clocks.old flags.old values.old posts.old)
-            (memory clocks.new flags.new values.new posts.new) result
-    }
+        (memory clocks.old flags.old values.old posts.old)
+        (memory clocks.new flags.new values.new posts.new) result }
 {
     let answer = hand_judged(board, clocks, flags, values, posts, call)?;
     Ok(line_of_answer(call.unit, answer))
@@ -77,16 +75,12 @@ fn close<J: Judge<Value = u64>>(
     after: &[u8],
     place: usize,
 ) -> Result<usize, RecordingFault>
-    requires room {
-        let b = setup_of board.now in
-        has_room b.units b.messages (memory clocks.now flags.now values.now posts.now) ≡ true
-    }
+    requires room { let b = setup_of board.now in
+        has_room b.units b.messages (memory clocks.now flags.now values.now posts.now) ≡ true }
     requires place { place + 1 < 2 ^ 64 }
-    ensures {
-        let b = setup_of board.now in
+    ensures { let b = setup_of board.now in
         EndedOn J.Measure.meaning (payload_of board.now).measure b.units b.messages
-            (memory clocks.now flags.now values.now posts.now) place after.now result
-    }
+        (memory clocks.now flags.now values.now posts.now) place after.now result }
 {
     if !after.is_empty() {
         return Err(RecordingFault {
@@ -110,17 +104,13 @@ fn follow<J: Judge<Value = u64>>(
     bytes: &[u8],
     from: usize,
 ) -> Result<usize, RecordingFault>
-    requires room {
-        let b = setup_of board.now in
-        has_room b.units b.messages (memory clocks.old flags.old values.old posts.old) ≡ true
-    }
+    requires room { let b = setup_of board.now in
+        has_room b.units b.messages (memory clocks.old flags.old values.old posts.old) ≡ true }
     requires places { from + length bytes.now < 2 ^ 64 }
     requires space { length page.old.text + TEXT_PER_BYTE * length bytes.now ≤ page.old.room }
-    ensures tells {
-        let b = setup_of board.now in
+    ensures tells { let b = setup_of board.now in
         WroteOn J.Measure.meaning J.Judge.some_of J.Judge.all_of (payload_of board.now).measure b.units b.messages
-            (memory clocks.old flags.old values.old posts.old) from bytes.now page.old.text page.new.text result
-    }
+        (memory clocks.old flags.old values.old posts.old) from bytes.now page.old.text page.new.text result }
     ensures long { length page.new.text ≤ length page.old.text + TEXT_PER_BYTE * length bytes.now }
     ensures room { page.old.room ≤ page.new.room }
 {

@@ -22,13 +22,11 @@ const HEAD: usize = 12;
 impl Head {
     // The first twelve bytes of a pattern.
     fn read(input: &[u8]) -> Result<Head, Fault>
-        ensures {
-            MatchResult result
-                (λ h. (head_fault input.now ≡ None) × (h.states.number ≡ states_in input.now)
-                    × (h.labels.number ≡ labels_in input.now) × (h.start ≡ start_in input.now)
-                    × (h.finals ≡ finals_in input.now))
-                (λ f. head_fault input.now ≡ Some f)
-        }
+        ensures { MatchResult result
+            (λ h. (head_fault input.now ≡ None) × (h.states.number ≡ states_in input.now)
+            × (h.labels.number ≡ labels_in input.now) × (h.start ≡ start_in input.now)
+            × (h.finals ≡ finals_in input.now))
+            (λ f. head_fault input.now ≡ Some f) }
     {
         let too_short = Fault::at(Refusal::PatternTooShort, input.len());
         let (first, rest) = input.split_first_chunk::<4>().ok_or(too_short)?;
@@ -60,18 +58,12 @@ impl Pattern {
     /// holds the states to which they lead (`recognizes`), and whatever calls a board was handed, the set answered at a mark those to which the
     /// longest flows that end there lead (`runs`).
     pub fn read(input: &[u8]) -> Result<Pattern, Fault>
-        ensures answer {
-            MatchResult result (λ p. (pattern_fault input.now ≡ None) × IsPatternOf input.now p)
-                (λ f. pattern_fault input.now ≡ Some f)
-        }
-        ensures recognizes {
-            IfOk result (λ p. Recognizes input.now (⟦<Pattern as Measure>⟧.meaning p)
-                (⟦<Pattern as Judge>⟧.some_of p) (⟦<Pattern as Judge>⟧.all_of p))
-        }
-        ensures runs {
-            IfOk result (λ p. MarksReach input.now (⟦<Pattern as Measure>⟧.meaning p)
-                (⟦<Pattern as Judge>⟧.some_of p) (⟦<Pattern as Judge>⟧.all_of p))
-        }
+        ensures answer { MatchResult result (λ p. (pattern_fault input.now ≡ None) × IsPatternOf input.now p)
+            (λ f. pattern_fault input.now ≡ Some f) }
+        ensures recognizes { IfOk result (λ p. Recognizes input.now (⟦<Pattern as Measure>⟧.meaning p)
+            (⟦<Pattern as Judge>⟧.some_of p) (⟦<Pattern as Judge>⟧.all_of p)) }
+        ensures runs { IfOk result (λ p. MarksReach input.now (⟦<Pattern as Measure>⟧.meaning p)
+            (⟦<Pattern as Judge>⟧.some_of p) (⟦<Pattern as Judge>⟧.all_of p)) }
     {
         let head = Head::read(input)?;
         let after = Cursor { input, place: HEAD };

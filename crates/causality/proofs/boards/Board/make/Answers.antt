@@ -1,4 +1,4 @@
-use Rattle.std.proofs.Common.{◌≡◌, sym, ◌+◌, ◌*◌, false, true, ap, ◌∙◌, subst, arith, rules}
+use Rattle.std.proofs.Common.{◌≡◌, sym, ◌+◌, ◌*◌, false, true, ap, ◌∙◌, subst, arith}
 use Rattle.history.specs.Messages.{unsent}
 use Rattle.causality.specs.Boards.{has_room, memory}
 use Rattle.causality.proofs.RoomFacts.{ready}

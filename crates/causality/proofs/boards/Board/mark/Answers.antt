@@ -1,4 +1,4 @@
-use Rattle.std.proofs.Common.{◌≡◌, ℕ, take, drop, subst, sym, ◌+◌, ◌-◌, ◌*◌, ◌<◌, false, true, refl, arith, rules}
+use Rattle.std.proofs.Common.{◌≡◌, ℕ, take, drop, subst, sym, ◌+◌, ◌-◌, ◌*◌, ◌<◌, false, true, refl, arith}
 use Rattle.grid.proofs.Promises.{cell_set}
 use Rattle.causality.specs.Boards.{memory}
 use Rattle.causality.specs.Payloads.{Reads}

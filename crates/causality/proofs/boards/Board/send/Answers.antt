@@ -1,4 +1,4 @@
-use Rattle.std.proofs.Common.{◌+◌, false, refl, arith, rules}
+use Rattle.std.proofs.Common.{◌+◌, false, refl, arith}
 use Rattle.causality.specs.Boards.{memory}
 use Rattle.causality.proofs.SendFacts.{sent}
 use Rattle.causality.proofs.GridFacts.{copied}
