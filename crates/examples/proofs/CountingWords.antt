@@ -6,11 +6,11 @@ use Rattle.measures.specs.Words.{Letter, Word}
 use Rattle.measures.specs.Measures.{Lawful}
 use Rattle.measures.specs.Laws.{LawOfRuns}
 use Rattle.measures.proofs.Promises.{law_of_runs}
-use Rattle.examples.specs.WorkedRuns.{words, put_in_front}
+use Rattle.examples.specs.WorkedRuns.{words, put_first}
 
-put_in_front_joined : (l : Letter) (f g : Word → ℕ) (w : Word) → put_in_front l (λ v. f v + g v) w ≡ put_in_front l f w + put_in_front l g w
-put_in_front_joined l f g [] = refl
-put_in_front_joined l f g (x ∷ w) = grind arith
+put_first_joined : (l : Letter) (f g : Word → ℕ) (w : Word) → put_first l (λ v. f v + g v) w ≡ put_first l f w + put_first l g w
+put_first_joined l f g [] = refl
+put_first_joined l f g (x ∷ w) = grind arith
 
 words_lawful : (n : ℕ) → (0 < n) × (n ≤ 64) → Lawful (words n) (λ f. Unit {0})
 words_lawful n in_range = record {
@@ -21,7 +21,7 @@ words_lawful n in_range = record {
   unlabelled = λ a l h. cond-false _ _ a (le-ltb l n (omega arith));
   commutes = λ a b _ _. fun_ext (λ w. omega arith);
   associates = λ a b c _ _ _. fun_ext (λ w. omega arith);
-  distributes = λ a b l _ _ h. rw (lt-ltb l n h) (fun_ext (put_in_front_joined l a b));
+  distributes = λ a b l _ _ h. rw (lt-ltb l n h) (fun_ext (put_first_joined l a b));
 }
 
 pub law_of_words : (n : ℕ) → (0 < n) × (n ≤ 64) → LawOfRuns (words n)

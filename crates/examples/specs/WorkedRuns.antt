@@ -51,17 +51,17 @@ abbrev pub empty_once : Word → ℕ
 empty_once [] = 1
 empty_once (x ∷ w) = 0
 
--- what f says of words, of the same words with l put in front
-abbrev pub put_in_front : Letter → (Word → ℕ) → Word → ℕ
-put_in_front l f [] = 0
-put_in_front l f (x ∷ w) = if x == l then f w else 0
+-- what f says of words, of the same words with l put first
+abbrev pub put_first : Letter → (Word → ℕ) → Word → ℕ
+put_first l f [] = 0
+put_first l f (x ∷ w) = if x == l then f w else 0
 
--- The measure that tells of each word, the last letter in front, how many flows have it.
+-- The measure that tells of each word, the last letter first, how many flows have it.
 abbrev pub words : ℕ → Meaning (Word → ℕ)
 words n = record {
   labels = n;
   start = empty_once;
-  step = λ f l. if nat_lt l n then put_in_front l f else f;
+  step = λ f l. if nat_lt l n then put_first l f else f;
   join = λ f g w. f w + g w;
 }
 
@@ -157,8 +157,8 @@ lost_wake_up = record {
 }
 
 -- The run that docs/LAW.md draws; the labels 0 to 5 are its a to f.
-abbrev pub three_chains_into_one_mark : Case
-three_chains_into_one_mark = record {
+abbrev pub three_flows_into_one_mark : Case
+three_flows_into_one_mark = record {
   worked = record {
     units = 3;
     messages = 3;
@@ -214,7 +214,7 @@ refusals_on_a_new_board = record {
 
 abbrev pub cases : List Case
 cases =
-    player_waits_first ∷ lost_wake_up ∷ three_chains_into_one_mark ∷ message_overtaken_by_an_indirect_one ∷ two_messages_from_one_mark ∷ unit_hears_itself
+    player_waits_first ∷ lost_wake_up ∷ three_flows_into_one_mark ∷ message_overtaken_by_an_indirect_one ∷ two_messages_from_one_mark ∷ unit_hears_itself
     ∷ refusals_on_a_new_board ∷ []
 
 -- Every finding of every case is so.

@@ -16,8 +16,8 @@ fn refused<T: Drop>(answered: Result<T, Refusal>) -> Option<u8> {
     answered.err().map(u8::from)
 }
 
-// The front of a memory.
-fn front<T>(memory: &mut [T], count: usize) -> &mut [T] {
+// The first cells of a memory.
+fn first_cells<T>(memory: &mut [T], count: usize) -> &mut [T] {
     let count = count.min(memory.len());
     &mut memory[..count]
 }
@@ -127,10 +127,10 @@ impl Memory {
     // The refusals of a board without measures, in a part of the memory.
     fn refusals(&mut self, board: &Board<Bare>, lent: Lent) -> [Option<u8>; 6] {
         let mut nothing = [(); 12];
-        let clocks = &mut Grid::new(front(&mut self.clocks, lent.cells[0]), lent.widths[0]);
-        let flags = &mut Grid::new(front(&mut self.flags, lent.cells[1]), lent.widths[1]);
-        let values = &mut Grid::new(front(&mut nothing, lent.cells[2]), lent.widths[2]);
-        let posts = front(&mut self.posts, lent.places);
+        let clocks = &mut Grid::new(first_cells(&mut self.clocks, lent.cells[0]), lent.widths[0]);
+        let flags = &mut Grid::new(first_cells(&mut self.flags, lent.cells[1]), lent.widths[1]);
+        let values = &mut Grid::new(first_cells(&mut nothing, lent.cells[2]), lent.widths[2]);
+        let posts = first_cells(&mut self.posts, lent.places);
         refusals(Bare, board, clocks, flags, values, posts)
     }
 
@@ -141,10 +141,10 @@ impl Memory {
         board: &Board<Measured<Pattern>>,
         lent: Lent,
     ) -> [Option<u8>; 6] {
-        let clocks = &mut Grid::new(front(&mut self.clocks, lent.cells[0]), lent.widths[0]);
-        let flags = &mut Grid::new(front(&mut self.flags, lent.cells[1]), lent.widths[1]);
-        let values = &mut Grid::new(front(&mut self.values, lent.cells[2]), lent.widths[2]);
-        let posts = front(&mut self.posts, lent.places);
+        let clocks = &mut Grid::new(first_cells(&mut self.clocks, lent.cells[0]), lent.widths[0]);
+        let flags = &mut Grid::new(first_cells(&mut self.flags, lent.cells[1]), lent.widths[1]);
+        let values = &mut Grid::new(first_cells(&mut self.values, lent.cells[2]), lent.widths[2]);
+        let posts = first_cells(&mut self.posts, lent.places);
         refusals(
             Measured { measure: pattern },
             board,
@@ -157,10 +157,10 @@ impl Memory {
 
     // Makes a board under the pattern, in just enough of the memory.
     fn make(&mut self, pattern: Pattern) -> Result<Board<Measured<Pattern>>, Refusal> {
-        let clocks = &mut Grid::new(front(&mut self.clocks, 8), 2);
-        let flags = &mut Grid::new(front(&mut self.flags, 8), 2);
-        let values = &mut Grid::new(front(&mut self.values, 8), 2);
-        let posts = front(&mut self.posts, 2);
+        let clocks = &mut Grid::new(first_cells(&mut self.clocks, 8), 2);
+        let flags = &mut Grid::new(first_cells(&mut self.flags, 8), 2);
+        let values = &mut Grid::new(first_cells(&mut self.values, 8), 2);
+        let posts = first_cells(&mut self.posts, 2);
         Board::make(
             Measured { measure: pattern },
             2,
@@ -178,10 +178,10 @@ impl Memory {
         board: &Board<Measured<Pattern>>,
         call: Call,
     ) -> Result<Answer<u64>, Refusal> {
-        let clocks = &mut Grid::new(front(&mut self.clocks, 8), 2);
-        let flags = &mut Grid::new(front(&mut self.flags, 8), 2);
-        let values = &mut Grid::new(front(&mut self.values, 8), 2);
-        let posts = front(&mut self.posts, 2);
+        let clocks = &mut Grid::new(first_cells(&mut self.clocks, 8), 2);
+        let flags = &mut Grid::new(first_cells(&mut self.flags, 8), 2);
+        let values = &mut Grid::new(first_cells(&mut self.values, 8), 2);
+        let posts = first_cells(&mut self.posts, 2);
         board.hand(clocks, flags, values, posts, call)
     }
 
@@ -192,28 +192,28 @@ impl Memory {
         unit: usize,
         label: u8,
     ) -> Result<Marked<JudgedValue<u64>>, Refusal> {
-        let clocks = &mut Grid::new(front(&mut self.clocks, 8), 2);
-        let flags = &mut Grid::new(front(&mut self.flags, 8), 2);
-        let values = &mut Grid::new(front(&mut self.values, 8), 2);
+        let clocks = &mut Grid::new(first_cells(&mut self.clocks, 8), 2);
+        let flags = &mut Grid::new(first_cells(&mut self.flags, 8), 2);
+        let values = &mut Grid::new(first_cells(&mut self.values, 8), 2);
         mark_judged(board, clocks, flags, values, &self.posts, unit, label)
     }
 
     // Makes a board without measures there.
     fn make_bare(&mut self) -> Result<Board<Bare>, Refusal> {
         let mut nothing = [(); 8];
-        let clocks = &mut Grid::new(front(&mut self.clocks, 8), 2);
-        let flags = &mut Grid::new(front(&mut self.flags, 8), 2);
+        let clocks = &mut Grid::new(first_cells(&mut self.clocks, 8), 2);
+        let flags = &mut Grid::new(first_cells(&mut self.flags, 8), 2);
         let values = &mut Grid::new(&mut nothing, 2);
-        Board::make(Bare, 2, 2, clocks, flags, values, front(&mut self.posts, 2))
+        Board::make(Bare, 2, 2, clocks, flags, values, first_cells(&mut self.posts, 2))
     }
 
     // Hands a call to that one.
     fn hand_bare(&mut self, board: &Board<Bare>, call: Call) -> Result<Answer<()>, Refusal> {
         let mut nothing = [(); 8];
-        let clocks = &mut Grid::new(front(&mut self.clocks, 8), 2);
-        let flags = &mut Grid::new(front(&mut self.flags, 8), 2);
+        let clocks = &mut Grid::new(first_cells(&mut self.clocks, 8), 2);
+        let flags = &mut Grid::new(first_cells(&mut self.flags, 8), 2);
         let values = &mut Grid::new(&mut nothing, 2);
-        board.hand(clocks, flags, values, front(&mut self.posts, 2), call)
+        board.hand(clocks, flags, values, first_cells(&mut self.posts, 2), call)
     }
 }
 
@@ -258,8 +258,8 @@ fn sizes_that_are_refused(rt: HostRuntime) -> Result<(), Fail> {
 fn largest(cells: usize) -> Result<Board<Bare>, Refusal> {
     let (mut clocks, mut flags, mut posts) = ([9; 4336], [true; 4336], [Post::Delivered; 255]);
     let mut nothing = [(); 4336];
-    let clocks = &mut Grid::new(front(&mut clocks, cells), 16);
-    let flags = &mut Grid::new(front(&mut flags, cells), 16);
+    let clocks = &mut Grid::new(first_cells(&mut clocks, cells), 16);
+    let flags = &mut Grid::new(first_cells(&mut flags, cells), 16);
     let values = &mut Grid::new(&mut nothing, 16);
     Board::make(Bare, 16, 255, clocks, flags, values, &mut posts)
 }
@@ -337,7 +337,7 @@ fn questions_of_the_calls(rt: HostRuntime) -> Result<(), Fail> {
     Ok(())
 }
 
-// A unit's own clock goes up to 65,535; a label that the measure lacks is told before a full clock.
+// A unit's own clock goes up to 65,535; a label that the measure lacks is refused before a full clock.
 #[test]
 fn the_last_mark_of_a_unit(rt: HostRuntime) -> Result<(), Fail> {
     let (mut clocks, mut flags, mut values) = ([0], [false], [Lengths::default()]);
@@ -355,8 +355,8 @@ fn the_last_mark_of_a_unit(rt: HostRuntime) -> Result<(), Fail> {
         &mut [],
     )?;
     for clock in 1..=65535 {
-        let told = made.mark(clocks, flags, values, &[], 0, 0)?;
-        assert_eq!(rt; told.clock, clock);
+        let marked = made.mark(clocks, flags, values, &[], 0, 0)?;
+        assert_eq!(rt; marked.clock, clock);
     }
     let full = Lengths {
         shortest: 65535,
@@ -383,7 +383,7 @@ fn the_last_mark_of_a_unit(rt: HostRuntime) -> Result<(), Fail> {
 }
 
 // Player waits first: unit 1 waits and tells unit 0, which then hears the beacon and tells unit 1, which starts the sound.
-// Each call with the own clock that it is told, and of a mark its predecessors and its value.
+// Each call with the own clock in its answer, and of a mark its predecessors and its value.
 const PLAYER_WAITS_FIRST: [(usize, Event, Clock, Option<(u64, u64)>); 7] = [
     (1, Event::Mark(1), 1, Some((0, 0x02))),
     (1, Event::Send(0), 1, None),
@@ -402,10 +402,10 @@ fn the_player_waits_first(rt: HostRuntime) -> Result<(), Fail> {
     for (unit, event, clock, mark) in PLAYER_WAITS_FIRST {
         let call = Call { unit, event };
         let answered = memory.hand(&made, call);
-        assert_eq!(rt; told(answered), Ok((clock, mark)));
+        assert_eq!(rt; answer_parts(answered), Ok((clock, mark)));
         let bare_mark = mark.map(|(predecessors, _)| (predecessors, ()));
         let bare_answered = bare_memory.hand_bare(&bare, call);
-        assert_eq!(rt; told(bare_answered), Ok((clock, bare_mark)));
+        assert_eq!(rt; answer_parts(bare_answered), Ok((clock, bare_mark)));
     }
     assert_eq!(rt; bare_memory.clocks, memory.clocks);
     assert_eq!(rt; bare_memory.flags, memory.flags);
@@ -424,11 +424,11 @@ fn a_message_on_its_way(rt: HostRuntime) -> Result<(), Fail> {
         unit: 1,
         event: Event::Send(0),
     };
-    assert_eq!(rt; told(memory.hand(&board, call)), Ok((0, None)));
-    let clocks = &Grid::new(front(&mut memory.clocks, 8), 2);
-    let flags = &Grid::new(front(&mut memory.flags, 8), 2);
-    let values = &Grid::new(front(&mut memory.values, 8), 2);
-    let posts = front(&mut memory.posts, 2);
+    assert_eq!(rt; answer_parts(memory.hand(&board, call)), Ok((0, None)));
+    let clocks = &Grid::new(first_cells(&mut memory.clocks, 8), 2);
+    let flags = &Grid::new(first_cells(&mut memory.flags, 8), 2);
+    let values = &Grid::new(first_cells(&mut memory.values, 8), 2);
+    let posts = first_cells(&mut memory.posts, 2);
     assert_eq!(rt;
         board.state(clocks, flags, values, posts, 0),
         Ok(Post::OnItsWay)
@@ -499,8 +499,8 @@ fn two_flows(beacon: u8, waiting: u8, sound: u8) -> [Call; 10] {
     .map(|(unit, event)| Call { unit, event })
 }
 
-// The own clock that a call was told, and with it the predecessors and the value of a mark; or the number of the refusal.
-fn told<V: Copy>(answered: Result<Answer<V>, Refusal>) -> Result<(Clock, Option<(u64, V)>), u8> {
+// The own clock in an answer, and with it the predecessors and the value of a mark; or the number of the refusal.
+fn answer_parts<V: Copy>(answered: Result<Answer<V>, Refusal>) -> Result<(Clock, Option<(u64, V)>), u8> {
     match answered {
         Ok(Answer::Sent(clock) | Answer::Received(clock)) => Ok((clock, None)),
         Ok(Answer::Marked(mark)) => Ok((mark.clock, Some((mark.predecessors, mark.value)))),
@@ -541,7 +541,7 @@ fn calls_replayed_under_the_pattern(rt: HostRuntime) -> Result<(), Fail> {
     let counts = replayed(pattern, &mut [9; 18], &two_flows(0, 1, 2), &mut answers)?;
     assert_eq!(rt; counts, (10, 0));
     assert_eq!(rt;
-        answers.map(told),
+        answers.map(answer_parts),
         [
             Ok((1, Some((0, 0x02)))),
             Ok((1, None)),
@@ -571,12 +571,12 @@ fn calls_that_are_left(rt: HostRuntime) -> Result<(), Fail> {
         (2, 1)
     );
     assert_eq!(rt;
-        answers.map(told),
+        answers.map(answer_parts),
         [Ok((1, Some((0, 0x02)))), Ok((1, None)), Err(12)]
     );
     let short = replayed(pattern, &mut [9; 17], &calls, &mut answers);
     assert_eq!(rt; refused(short), Some(3));
-    assert_eq!(rt; told(answers[0]), Ok((1, Some((0, 0x02)))));
+    assert_eq!(rt; answer_parts(answers[0]), Ok((1, Some((0, 0x02)))));
     Ok(())
 }
 
@@ -586,7 +586,7 @@ fn the_last_mark_under_other_measures(rt: HostRuntime) -> Result<(), Fail> {
     let calls = two_flows(0, 1, 2);
     let mut counts = [Err(UNWRITTEN); 10];
     replayed(FlowCount::new(3)?, &mut [9; 18], &calls, &mut counts)?;
-    assert_eq!(rt; told(counts[9]), Ok((2, Some((5, 2)))));
+    assert_eq!(rt; answer_parts(counts[9]), Ok((2, Some((5, 2)))));
     let both = Lengths {
         shortest: 2,
         longest: 3,
@@ -597,7 +597,7 @@ fn the_last_mark_under_other_measures(rt: HostRuntime) -> Result<(), Fail> {
     };
     let mut spans = [Err(UNWRITTEN); 10];
     replayed(Span::new(3, 2)?, &mut [written; 18], &calls, &mut spans)?;
-    assert_eq!(rt; told(spans[9]), Ok((2, Some((5, both)))));
+    assert_eq!(rt; answer_parts(spans[9]), Ok((2, Some((5, both)))));
     let pattern = Pattern::read(&PATTERN)?;
     let relabelling = Relabelling::read(
         Cursor {
@@ -608,7 +608,7 @@ fn the_last_mark_under_other_measures(rt: HostRuntime) -> Result<(), Fail> {
     )?;
     let mut sets = [Err(UNWRITTEN); 10];
     replayed(relabelling, &mut [9; 18], &two_flows(2, 0, 1), &mut sets)?;
-    assert_eq!(rt; told(sets[9]), Ok((2, Some((5, 0x18)))));
+    assert_eq!(rt; answer_parts(sets[9]), Ok((2, Some((5, 0x18)))));
     Ok(())
 }
 
@@ -635,8 +635,8 @@ where
         &mut [],
     )?;
     for &label in labels {
-        let told = mark_judged(&board, clocks, flags, values, &[], 0, label)?;
-        last = Some(told.value.verdict);
+        let marked = mark_judged(&board, clocks, flags, values, &[], 0, label)?;
+        last = Some(marked.value.verdict);
     }
     Ok(last)
 }

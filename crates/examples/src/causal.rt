@@ -32,7 +32,7 @@ fn compared(p: &[Clock], q: &[Clock], i: usize, j: usize) -> Result<u8, u8> {
 // Unit 0 marks a and b, unit 2 marks d, unit 1 hears of a and d and marks e; unit 0 hears of e and of a further mark of unit 1,
 // and marks c.
 #[test]
-fn three_chains_into_one_mark(rt: HostRuntime) {
+fn three_flows_into_one_mark(rt: HostRuntime) {
     let a = [1, 0, 0];
     let b = [2, 0, 0];
     let c = [3, 2, 1];

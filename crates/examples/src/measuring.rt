@@ -1,6 +1,6 @@
 //! Worked values of the flow count, the span, the pattern and a relabelling, and what their makers refuse.
 use super::reading::PATTERN;
-use measures::{FlowCount, Judge, Lengths, Measure, Pattern, Refusal, Relabelling, Span, carry};
+use measures::{FlowCount, Judge, Lengths, Measure, Pattern, Refusal, Relabelling, Span, value_along};
 use std::test::Fail;
 use text::Cursor;
 
@@ -24,7 +24,7 @@ fn label_counts_and_limits(rt: HostRuntime) {
 #[test]
 fn counts_are_capped(rt: HostRuntime) -> Result<(), Fail> {
     let count = FlowCount::new(3)?;
-    assert_eq!(rt; carry(&count, &[0, 1, 2]), 1);
+    assert_eq!(rt; value_along(&count, &[0, 1, 2]), 1);
     assert_eq!(rt; count.join(2, 3), 5);
     assert_eq!(rt; count.join(4294967294, 1), 4294967295);
     assert_eq!(rt; count.join(4294967295, 4294967295), 4294967295);
@@ -34,8 +34,8 @@ fn counts_are_capped(rt: HostRuntime) -> Result<(), Fail> {
 #[test]
 fn spans_have_two_ends(rt: HostRuntime) -> Result<(), Fail> {
     let span = Span::new(3, 2)?;
-    let short = carry(&span, &[0, 1]);
-    let long = carry(&span, &[0, 1, 3, 2]);
+    let short = value_along(&span, &[0, 1]);
+    let long = value_along(&span, &[0, 1, 3, 2]);
     assert_eq!(rt;
         long,
         Lengths {
@@ -65,8 +65,8 @@ fn spans_have_two_ends(rt: HostRuntime) -> Result<(), Fail> {
 #[test]
 fn the_beacon_while_the_player_waits(rt: HostRuntime) -> Result<(), Fail> {
     let pattern = Pattern::read(&PATTERN)?;
-    let good = carry(&pattern, &[1, 0, 2]);
-    let bad = carry(&pattern, &[0, 2]);
+    let good = value_along(&pattern, &[1, 0, 2]);
+    let bad = value_along(&pattern, &[0, 2]);
     assert_eq!(rt; good, 8);
     assert_eq!(rt; bad, 16);
     assert_eq!(rt; pattern.some(good) && pattern.all(good), true);
@@ -88,7 +88,7 @@ fn other_labels_for_the_same_pattern(rt: HostRuntime) -> Result<(), Fail> {
         },
         pattern,
     )?;
-    let good = carry(&relabelling, &[0, 2, 1]);
+    let good = value_along(&relabelling, &[0, 2, 1]);
     assert_eq!(rt; good, 8);
     assert_eq!(rt; relabelling.all(good), true);
     assert_eq!(rt; relabelling.labels(), 3);

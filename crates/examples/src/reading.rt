@@ -2,7 +2,8 @@
 use measures::{Fault, Pattern, Relabelling};
 use text::Cursor;
 
-// Labels: 0 beacon, 1 waiting, 2 sound. A chain is good if it is made of rounds, one or more: a waiting, then waitings and beacons of which the last is a beacon, then a sound.
+// Labels: 0 beacon, 1 waiting, 2 sound. A flow is good if it is made of rounds, one or more: a waiting, then waitings and beacons of which the
+// last is a beacon, then a sound.
 pub const PATTERN: [u8; 27] = [
     0x20, 5, 3, 0, 0x08, 0, 0, 0, 0, 0, 0, 0, 4, 1, 4, 2, 1, 4, 2, 1, 3, 4, 1, 4, 4, 4, 4,
 ];
@@ -51,7 +52,7 @@ fn relabelled() -> [u8; 32] {
 }
 
 // The number and place of a fault.
-fn told(fault: Fault) -> (u8, usize) {
+fn fault_parts(fault: Fault) -> (u8, usize) {
     (u8::from(fault.refusal), fault.place)
 }
 
@@ -59,16 +60,16 @@ fn told(fault: Fault) -> (u8, usize) {
 fn pattern_answer(input: &[u8]) -> Result<usize, (u8, usize)> {
     Pattern::read(input)
         .map(|pattern| pattern.size())
-        .map_err(told)
+        .map_err(fault_parts)
 }
 
 // The same of the relabelling after the pattern.
 fn relabelling_answer(input: &[u8]) -> Result<usize, (u8, usize)> {
-    let pattern = Pattern::read(input).map_err(told)?;
+    let pattern = Pattern::read(input).map_err(fault_parts)?;
     let place = pattern.size();
     Relabelling::read(Cursor { input, place }, pattern)
         .map(|relabelling| relabelling.size())
-        .map_err(told)
+        .map_err(fault_parts)
 }
 
 #[test]

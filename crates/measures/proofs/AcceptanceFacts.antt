@@ -49,13 +49,13 @@ within_one f q =
     (within_members (2 ^ q) f)
 
 module _ (states labels start : ℕ) (table : List ℕ) (in_range : (0 < labels) × (labels ≤ 64)) (begins : start < states) (complete : (k : ℕ) → k < states * labels → slice_index table k < states) where
-  carried_pow : (q : ℕ) (w : Word) → q < states → Labels labels w → word_value_from (state_sets states labels start table) (2 ^ q) w ≡ 2 ^ leads (next labels table) q w
-  carried_pow q [] hq ls = refl
-  carried_pow q (l ∷ w) hq ls =
-      rw (lt-ltb l labels ls.0, image_pow (next labels table l) states q hq) (carried_pow (next labels table l q) w (next_below states labels start table in_range begins complete l q ls.0 hq) ls.1)
+  word_value_pow : (q : ℕ) (w : Word) → q < states → Labels labels w → word_value_from (state_sets states labels start table) (2 ^ q) w ≡ 2 ^ leads (next labels table) q w
+  word_value_pow q [] hq ls = refl
+  word_value_pow q (l ∷ w) hq ls =
+      rw (lt-ltb l labels ls.0, image_pow (next labels table l) states q hq) (word_value_pow (next labels table l q) w (next_below states labels start table in_range begins complete l q ls.0 hq) ls.1)
 
-  pub carried_one : (w : Word) → Labels labels w → word_value (state_sets states labels start table) w ≡ 2 ^ leads (next labels table) start w
-  carried_one w ls = carried_pow start w begins ls
+  pub word_value_one : (w : Word) → Labels labels w → word_value (state_sets states labels start table) w ≡ 2 ^ leads (next labels table) start w
+  word_value_one w ls = word_value_pow start w begins ls
 
   -- An answer that goes through unions, and says of one state whether it is final, is yes exactly on the accepted words.
   pub shows_accepted : (finals : ℕ) (op : Bool → Bool → Bool) (answer : ℕ → Bool) {admits : ℕ → Type 0}
@@ -63,5 +63,5 @@ module _ (states labels start : ℕ) (table : List ℕ) (in_range : (0 < labels)
       → Judges op (state_sets states labels start table) admits answer (λ w. Member (leads (next labels table) start w) finals)
   shows_accepted finals op answer joins one = record {
     joins = λ a b _ _. joins a b;
-    decides = λ l w ls. Decides-at _ _ (ap answer (carried_one (l ∷ w) ls)) (one (leads (next labels table) start (l ∷ w)));
+    decides = λ l w ls. Decides-at _ _ (ap answer (word_value_one (l ∷ w) ls)) (one (leads (next labels table) start (l ∷ w)));
   }

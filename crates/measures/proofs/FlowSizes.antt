@@ -16,9 +16,9 @@ use Rattle.measures.proofs.JudgeFacts.{flow_spelled}
 use Rattle.measures.proofs.ValueFacts.{ranged, valued}
 
 -- along every word the count is 1
-count_carried : (labels v : ℕ) (w : Word) → word_value_from (flow_count labels) v w ≡ v
-count_carried labels v [] = refl
-count_carried labels v (l ∷ w) = count_carried labels v w
+count_word_value : (labels v : ℕ) (w : Word) → word_value_from (flow_count labels) v w ≡ v
+count_word_value labels v [] = refl
+count_word_value labels v (l ∷ w) = count_word_value labels v w
 
 -- a count joined with those of more flows
 count_joined : (labels : ℕ) {A : Type 0} (c : A → ℕ) → ((a : A) → c a ≡ 1) → (v : ℕ) (fs : List A) → v ≤ 4294967295 → join_of (flow_count labels) v (map c fs) ≡ min (v + length fs) 4294967295
@@ -30,10 +30,10 @@ flows_counted labels in_range n k limit cs u i l e =
     let m = flow_count labels in
     let v = valued m IsCount (flow_count_lawful labels in_range) n k limit cs u i l e in
     let ev = accepted_events m n k limit cs in
-    let one = count_carried labels 1 (word ev v.flow) in
+    let one = count_word_value labels 1 (word ev v.flow) in
     let is : v.answered.value ≡ min (length (v.flow ∷ v.flows)) 4294967295 =
     v.value_is
-    ∙ count_joined labels (λ f. word_value m (word ev f)) (λ f. count_carried labels 1 (word ev f)) (word_value m (word ev v.flow)) v.flows (omega arith)
+    ∙ count_joined labels (λ f. word_value m (word ev f)) (λ f. count_word_value labels 1 (word ev f)) (word_value m (word ev v.flow)) v.flows (omega arith)
     ∙ omega arith in
     (v, (length (v.flow ∷ v.flows), (v.flow ∷ v.flows, v.all, refl), is))
 
@@ -86,9 +86,9 @@ module _ (labels : ℕ) where
       }
 
   -- along a word of labels each end grows by the number of the word's labels
-  span_carried : (a b : ℕ) (w : Word) → a ≤ 65535 → b ≤ 65535 → Spelled (span labels) w → word_value_from (span labels) (lengths a b) w ≡ lengths (min (a + length w) 65535) (min (b + length w) 65535)
-  span_carried a b [] ha hb ls = ap₂ lengths (omega arith) (omega arith)
-  span_carried a b (l ∷ w) ha hb ls = rw (lt-ltb l labels ls.0) (span_carried (longer a) (longer b) w (omega arith) (omega arith) ls.1 ∙ ap₂ lengths (omega arith) (omega arith))
+  span_word_value : (a b : ℕ) (w : Word) → a ≤ 65535 → b ≤ 65535 → Spelled (span labels) w → word_value_from (span labels) (lengths a b) w ≡ lengths (min (a + length w) 65535) (min (b + length w) 65535)
+  span_word_value a b [] ha hb ls = ap₂ lengths (omega arith) (omega arith)
+  span_word_value a b (l ∷ w) ha hb ls = rw (lt-ltb l labels ls.0) (span_word_value (longer a) (longer b) w (omega arith) (omega arith) ls.1 ∙ ap₂ lengths (omega arith) (omega arith))
 
   module _ (ev : Events) (u i : ℕ) (spelled : (f : List Position) → Longest ev u i f → Spelled (span labels) (word ev f)) where
     abbrev along : List Position → Lengths
@@ -98,7 +98,7 @@ module _ (labels : ℕ) where
     along_is : (f : List Position) → Longest ev u i f → along f ≡ lengths (min (length f) 65535) (min (length f) 65535)
     along_is f h =
         let marks : length (word ev f) ≡ length f = length-map f (letter_at ev) in
-        span_carried 0 0 (word ev f) (omega arith) (omega arith) (spelled f h)
+        span_word_value 0 0 (word ev f) (omega arith) (omega arith) (spelled f h)
         ∙ ap₂ lengths (omega arith) (omega arith)
 
     low_is : (f : List Position) → Longest ev u i f → (along f).shortest ≡ min (length f) 65535

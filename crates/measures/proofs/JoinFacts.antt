@@ -10,24 +10,24 @@ use Rattle.history.proofs.Promises.{exactly_same}
 use Rattle.measures.specs.Words.{Letter}
 use Rattle.measures.specs.Measures.{Meaning, Lawful, Fits, word_value, join_of}
 use Rattle.measures.specs.Worths.{plus}
-use Rattle.measures.proofs.WordValueFacts.{carried_push}
+use Rattle.measures.proofs.WordValueFacts.{word_value_push}
 
 module _ {V : Type 0} (m : Meaning V) (ev : Events) where
-  -- the measure carried along a flow that has its last mark in front
-  abbrev pub carried_back : List Position → V
-  carried_back [] = m.start
-  carried_back (x ∷ f) = m.step (carried_back f) (letter_at ev x)
+  -- the value of a flow that is listed with its last mark first
+  abbrev pub word_value_back : List Position → V
+  word_value_back [] = m.start
+  word_value_back (x ∷ f) = m.step (word_value_back f) (letter_at ev x)
 
   -- the join over a list of such flows
   abbrev pub total : List (List Position) → Option V
   total [] = None
-  total (f ∷ fs) = plus m (Some (carried_back f)) (total fs)
+  total (f ∷ fs) = plus m (Some (word_value_back f)) (total fs)
 
-  pub carried_back_word : (f : List Position) → carried_back f ≡ word_value m (word ev (reverse f))
-  carried_back_word [] = refl
-  carried_back_word (x ∷ f) =
-      ap (λ (a : V). m.step a (letter_at ev x)) (carried_back_word f)
-      ∙ sym (ap (word_value m) (ap (word ev) (reverse-cons x f) ∙ map_push (letter_at ev) (reverse f) x) ∙ carried_push m m.start (word ev (reverse f)) (letter_at ev x))
+  pub word_value_back_word : (f : List Position) → word_value_back f ≡ word_value m (word ev (reverse f))
+  word_value_back_word [] = refl
+  word_value_back_word (x ∷ f) =
+      ap (λ (a : V). m.step a (letter_at ev x)) (word_value_back_word f)
+      ∙ sym (ap (word_value m) (ap (word ev) (reverse-cons x f) ∙ map_push (letter_at ev) (reverse f) x) ∙ word_value_push m m.start (word ev (reverse f)) (letter_at ev x))
 
 module _ {V : Type 0} (m : Meaning V) (admits : V → Type 0) (laws : Lawful m admits) (ev : Events) where
   plus_admitted : (x y : Option V) → IfSome x admits → IfSome y admits → IfSome (plus m x y) admits
@@ -54,48 +54,48 @@ module _ {V : Type 0} (m : Meaning V) (admits : V → Type 0) (laws : Lawful m a
   plus_step l h (Some x) None p q = refl
   plus_step l h (Some x) (Some y) p q = ap Some (laws.distributes x y l p q h)
 
-  carried_back_admitted : (f : List Position) → admits (carried_back m ev f)
-  carried_back_admitted [] = laws.start_admitted
-  carried_back_admitted (x ∷ f) = laws.step_admitted (carried_back m ev f) (letter_at ev x) (carried_back_admitted f)
+  word_value_back_admitted : (f : List Position) → admits (word_value_back m ev f)
+  word_value_back_admitted [] = laws.start_admitted
+  word_value_back_admitted (x ∷ f) = laws.step_admitted (word_value_back m ev f) (letter_at ev x) (word_value_back_admitted f)
 
   total_admitted : (fs : List (List Position)) → IfSome (total m ev fs) admits
   total_admitted [] = tt
-  total_admitted (f ∷ fs) = plus_admitted (Some (carried_back m ev f)) (total m ev fs) (carried_back_admitted f) (total_admitted fs)
+  total_admitted (f ∷ fs) = plus_admitted (Some (word_value_back m ev f)) (total m ev fs) (word_value_back_admitted f) (total_admitted fs)
 
   pub total_append : (fs gs : List (List Position)) → total m ev (fs ++ gs) ≡ plus m (total m ev fs) (total m ev gs)
   total_append [] gs = refl
   total_append (f ∷ fs) gs =
-      ap (plus m (Some (carried_back m ev f))) (total_append fs gs)
-      ∙ sym (plus_assoc (Some (carried_back m ev f)) (total m ev fs) (total m ev gs) (carried_back_admitted f) (total_admitted fs) (total_admitted gs))
+      ap (plus m (Some (word_value_back m ev f))) (total_append fs gs)
+      ∙ sym (plus_assoc (Some (word_value_back m ev f)) (total m ev fs) (total m ev gs) (word_value_back_admitted f) (total_admitted fs) (total_admitted gs))
 
   -- one more mark at the end of every flow
   pub total_longer : (x : Position) → Fits m (letter_at ev x) → (fs : List (List Position)) → total m ev (map (λ f. x ∷ f) fs) ≡ option_map (λ a. m.step a (letter_at ev x)) (total m ev fs)
   total_longer x h [] = refl
   total_longer x h (f ∷ fs) =
-      ap (plus m (Some (carried_back m ev (x ∷ f)))) (total_longer x h fs)
-      ∙ sym (plus_step (letter_at ev x) h (Some (carried_back m ev f)) (total m ev fs) (carried_back_admitted f) (total_admitted fs))
+      ap (plus m (Some (word_value_back m ev (x ∷ f)))) (total_longer x h fs)
+      ∙ sym (plus_step (letter_at ev x) h (Some (word_value_back m ev f)) (total m ev fs) (word_value_back_admitted f) (total_admitted fs))
 
   total_around : (f : List Position) (s t : List (List Position)) → total m ev (s ++ (f ∷ t)) ≡ total m ev (f ∷ (s ++ t))
   total_around f s t =
-      let c = carried_back_admitted f in
+      let c = word_value_back_admitted f in
       let i = total_admitted s in
       let j = total_admitted t in
       total_append s (f ∷ t)
-      ∙ sym (plus_assoc (total m ev s) (Some (carried_back m ev f)) (total m ev t) i c j)
-      ∙ ap (λ (x : Option V). plus m x (total m ev t)) (plus_comm (total m ev s) (Some (carried_back m ev f)) i c)
-      ∙ plus_assoc (Some (carried_back m ev f)) (total m ev s) (total m ev t) c i j
-      ∙ ap (plus m (Some (carried_back m ev f))) (sym (total_append s t))
+      ∙ sym (plus_assoc (total m ev s) (Some (word_value_back m ev f)) (total m ev t) i c j)
+      ∙ ap (λ (x : Option V). plus m x (total m ev t)) (plus_comm (total m ev s) (Some (word_value_back m ev f)) i c)
+      ∙ plus_assoc (Some (word_value_back m ev f)) (total m ev s) (total m ev t) c i j
+      ∙ ap (plus m (Some (word_value_back m ev f))) (sym (total_append s t))
 
   -- the join does not depend on the order of the flows
   pub exactly_total : {P : List Position → Type 0} (fs gs : List (List Position)) → Exactly P fs → Exactly P gs → total m ev fs ≡ total m ev gs
-  exactly_total = exactly_same (λ x y. total m ev x ≡ total m ev y) refl (λ f x s t h. ap (plus m (Some (carried_back m ev f))) h ∙ sym (total_around f s t))
+  exactly_total = exactly_same (λ x y. total m ev x ≡ total m ev y) refl (λ f x s t h. ap (plus m (Some (word_value_back m ev f))) h ∙ sym (total_around f s t))
 
   -- the join in turn, from the first flow on
-  joined_plus : (a : V) (fs : List (List Position)) → admits a → plus m (Some a) (total m ev fs) ≡ Some (join_of m a (map (carried_back m ev) fs))
+  joined_plus : (a : V) (fs : List (List Position)) → admits a → plus m (Some a) (total m ev fs) ≡ Some (join_of m a (map (word_value_back m ev) fs))
   joined_plus a [] p = refl
   joined_plus a (f ∷ fs) p =
-      sym (plus_assoc (Some a) (Some (carried_back m ev f)) (total m ev fs) p (carried_back_admitted f) (total_admitted fs))
-      ∙ joined_plus (m.join a (carried_back m ev f)) fs (laws.join_admitted a (carried_back m ev f) p (carried_back_admitted f))
+      sym (plus_assoc (Some a) (Some (word_value_back m ev f)) (total m ev fs) p (word_value_back_admitted f) (total_admitted fs))
+      ∙ joined_plus (m.join a (word_value_back m ev f)) fs (laws.join_admitted a (word_value_back m ev f) p (word_value_back_admitted f))
 
-  pub total_joined : (f : List Position) (fs : List (List Position)) → total m ev (f ∷ fs) ≡ Some (join_of m (carried_back m ev f) (map (carried_back m ev) fs))
-  total_joined f fs = joined_plus (carried_back m ev f) fs (carried_back_admitted f)
+  pub total_joined : (f : List Position) (fs : List (List Position)) → total m ev (f ∷ fs) ≡ Some (join_of m (word_value_back m ev f) (map (word_value_back m ev) fs))
+  total_joined f fs = joined_plus (word_value_back m ev f) fs (word_value_back_admitted f)

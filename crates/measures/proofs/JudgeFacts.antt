@@ -15,9 +15,9 @@ use Rattle.measures.proofs.WorthFacts.{mark_fits}
 use Rattle.measures.proofs.ValueFacts.{ranged, valued}
 
 module _ {V : Type 0} (m : Meaning V) (admits : V → Type 0) (laws : Lawful m admits) where
-  carried_admitted : (v : V) (w : Word) → admits v → admits (word_value_from m v w)
-  carried_admitted v [] h = h
-  carried_admitted v (l ∷ w) h = carried_admitted (m.step v l) w (laws.step_admitted v l h)
+  word_value_admitted : (v : V) (w : Word) → admits v → admits (word_value_from m v w)
+  word_value_admitted v [] h = h
+  word_value_admitted v (l ∷ w) h = word_value_admitted (m.step v l) w (laws.step_admitted v l h)
 
   -- an answer that goes through joins by or: yes of a join exactly when yes of one of the joined
   module _ {A : Type 0} (c : A → V) (in' : (a : A) → admits (c a)) (answer : V → Bool) where
@@ -74,7 +74,7 @@ module _ {V : Type 0} (m : Meaning V) (admits : V → Type 0) (laws : Lawful m a
   flow_decided judge (x ∷ f) h = judge.decides (letter_at ev x) (word ev f) (flow_spelled m n k limit ev rg u i (x ∷ f) h.0 h.1)
 
   inside : (g : List Position) → admits (word_value m (word ev g))
-  inside g = carried_admitted m admits laws m.start (word ev g) laws.start_admitted
+  inside g = word_value_admitted m admits laws m.start (word ev g) laws.start_admitted
 
   module _ (f : List Position) (fs : List (List Position)) (all : Exactly (Longest ev u i) (f ∷ fs)) where
     pub some_decided : Judges ◌||◌ m admits answer good → Decides (answer (join_over m ev f fs)) ((g : List Position) × Longest ev u i g × good (word ev g))

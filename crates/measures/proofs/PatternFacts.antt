@@ -12,7 +12,7 @@ use Rattle.measures.specs.Measures.{word_value, join_of}
 use Rattle.measures.specs.Automata.{next, leads, state_sets}
 use Rattle.measures.specs.Formats.{labels_in, table_in, with_zeros, PatternOf}
 use Rattle.measures.specs.Acceptance.{state_after, accepts, Any, Recognizes}
-use Rattle.measures.proofs.AcceptanceFacts.{carried_one, only_member, meets_one, within_one}
+use Rattle.measures.proofs.AcceptanceFacts.{word_value_one, only_member, meets_one, within_one}
 
 -- the zeros after a table change no entry
 with_zeros_at : (n : ℕ) (t : List ℕ) (i : ℕ) → get_or (with_zeros n t) i 0 ≡ get_or t i 0
@@ -35,7 +35,7 @@ module _ (b : List ℕ) (states labels start finals : ℕ) (table : List ℕ) (p
   here w ls = subst (λ (n : ℕ). Labels n w) (sym parts.labels_are) ls
 
   one : (w : Word) → Labels (labels_in b) w → word_value (state_sets states labels start table) w ≡ 2 ^ state_after b w
-  one w ls = carried_one states labels start table in_range begins complete w (here w ls) ∙ ap (λ (q : ℕ). 2 ^ q) (state_read w)
+  one w ls = word_value_one states labels start table in_range begins complete w (here w ls) ∙ ap (λ (q : ℕ). 2 ^ q) (state_read w)
 
   pub member : (w : Word) → Labels (labels_in b) w → (q : ℕ) → Member q (word_value (state_sets states labels start table) w) ↔ (state_after b w ≡ q)
   member w ls q = subst (λ (set : ℕ). Member q set ↔ (state_after b w ≡ q)) (sym (one w ls)) (only_member (state_after b w) q)

@@ -51,10 +51,10 @@ pub some_decided : {V : Type 0} (m : Meaning V) (admits : V → Type 0) → Lawf
     → Judges ◌||◌ m admits answer good → Decides (answer (join_over m ev f fs)) ((g : List Position) × Longest ev u i g × good (word ev g))
 some_decided m admits laws n k limit ev rg u i answer good f fs all = JudgeFacts.some_decided m admits laws n k limit ev rg u i answer good f fs all
 
--- What is carried along the first i letters of a word, stepped by the next, is carried along one letter more.
-pub carried_take_more : {V : Type 0} (m : Meaning V) (v x : V) (w : Word) (i : ℕ) → i < length w → v ≡ word_value m (take i w)
+-- The value of the first i letters of a word, stepped by the next, is the value of one letter more.
+pub word_value_take_more : {V : Type 0} (m : Meaning V) (v x : V) (w : Word) (i : ℕ) → i < length w → v ≡ word_value m (take i w)
     → x ≡ m.step v (get_or w i (letter_of 0 0)) → x ≡ word_value m (take (i + 1) w)
-carried_take_more m v x w i = WordValueFacts.carried_take_more m v x w i
+word_value_take_more m v x w i = WordValueFacts.word_value_take_more m v x w i
 
 -- ---- Judges of patterns and of relabellings
 

@@ -19,16 +19,16 @@ use Rattle.measures.specs.Measures.{Meaning, Lawful, word_value, join_of}
 use Rattle.measures.specs.Worths.{measured_payload, measured_size}
 use Rattle.measures.specs.Laws.{join_over, accepted_events, Valued, LawOfRuns}
 use Rattle.measures.proofs.BackwardFlows.{flows_longest, longest_flows}
-use Rattle.measures.proofs.JoinFacts.{carried_back, carried_back_word, total_joined, exactly_total}
+use Rattle.measures.proofs.JoinFacts.{word_value_back, word_value_back_word, total_joined, exactly_total}
 use Rattle.measures.proofs.GatheredFlows.{Tally}
 use Rattle.measures.proofs.WorthFacts.{worth_mark}
 
 module _ {V : Type 0} (m : Meaning V) (admits : V → Type 0) (laws : Lawful m admits) (ev : Events) where
   -- along flows with the last mark in front, and along these turned round
-  back_words : (fs : List (List Position)) → map (carried_back m ev) fs ≡ map (λ f. word_value m (word ev f)) (map reverse fs)
-  back_words fs = ap (λ (g : List Position → V). map g fs) (fun_ext (carried_back_word m ev)) ∙ sym (map-map (λ f. word_value m (word ev f)) reverse fs)
+  back_words : (fs : List (List Position)) → map (word_value_back m ev) fs ≡ map (λ f. word_value m (word ev f)) (map reverse fs)
+  back_words fs = ap (λ (g : List Position → V). map g fs) (fun_ext (word_value_back_word m ev)) ∙ sym (map-map (λ f. word_value m (word ev f)) reverse fs)
 
-  words_back : (fs : List (List Position)) → map (carried_back m ev) (map reverse fs) ≡ map (λ f. word_value m (word ev f)) fs
+  words_back : (fs : List (List Position)) → map (word_value_back m ev) (map reverse fs) ≡ map (λ f. word_value m (word ev f)) fs
   words_back fs = back_words (map reverse fs) ∙ ap (map (λ f. word_value m (word ev f))) (map-map reverse reverse fs ∙ ap (λ (g : List Position → List Position). map g fs) (fun_ext reverse-reverse) ∙ map-id fs)
 
   module _ (u i : ℕ) (x : V) where
@@ -39,7 +39,7 @@ module _ {V : Type 0} (m : Meaning V) (admits : V → Type 0) (laws : Lawful m a
       map reverse fs,
       flows_longest ev u i (f ∷ fs) e,
       same_Some _ _ (sym t ∙ total_joined m admits laws ev f fs)
-          ∙ ap₂ (join_of m) (carried_back_word m ev f) (back_words fs),
+          ∙ ap₂ (join_of m) (word_value_back_word m ev f) (back_words fs),
     )
 
     tally_any : Tally m ev u i x → (f : List Position) (fs : List (List Position)) → Exactly (Longest ev u i) (f ∷ fs) → x ≡ join_over m ev f fs
@@ -48,7 +48,7 @@ module _ {V : Type 0} (m : Meaning V) (admits : V → Type 0) (laws : Lawful m a
         (sym t
         ∙ exactly_total m admits laws ev gs (map reverse (f ∷ fs)) e (longest_flows ev u i (f ∷ fs) h)
         ∙ total_joined m admits laws ev (reverse f) (map reverse fs))
-        ∙ ap₂ (join_of m) (carried_back_word m ev (reverse f) ∙ ap (λ (g : List Position). word_value m (word ev g)) (reverse-reverse f)) (words_back fs)
+        ∙ ap₂ (join_of m) (word_value_back_word m ev (reverse f) ∙ ap (λ (g : List Position). word_value m (word ev g)) (reverse-reverse f)) (words_back fs)
 
 module _ {V : Type 0} (m : Meaning V) (admits : V → Type 0) (laws : Lawful m admits) (n k limit : ℕ) (cs : List Call) where
   pub ranged : Ranged (accepted_events m n k limit cs) (measured_size m n k limit)

@@ -19,7 +19,7 @@ use Rattle.measures.specs.Words.{Letter, letter_of}
 use Rattle.measures.specs.Measures.{Meaning, Lawful, Fits}
 use Rattle.measures.specs.Worths.{plus, flagged_join, worth, measured_size}
 use Rattle.measures.proofs.BackwardFlows.{Flow, flow_longer}
-use Rattle.measures.proofs.JoinFacts.{total, carried_back, total_longer}
+use Rattle.measures.proofs.JoinFacts.{total, word_value_back, total_longer}
 use Rattle.measures.proofs.GatheredFlows.{Tally, LeadsTo, Gathered, flow_to, gathered_all}
 
 plus_some : {V : Type 0} (m : Meaning V) (x : V) (t : Option V) → (y : V) × (plus m (Some x) t ≡ Some y)
@@ -68,7 +68,7 @@ module _ {V : Type 0} (ev : Events) (m : Meaning V) (admits : V → Type 0) (law
         (map (λ f. (u, i) ∷ f) (g ∷ gs))
         (exactly_map (λ f. (u, i) ∷ f) (λ a b x. cc) (g ∷ gs) all),
     total_longer m admits laws ev (u, i) (mark_fits m n k limit ev rg u i (l, e)) (g ∷ gs)
-        ∙ stepped m (letter_at ev (u, i)) (letter_of u l) (ap (letter u) e) (flagged_join m r n) (total m ev (g ∷ gs)) sum _ (plus_some m (carried_back m ev g) (total m ev gs)).1,
+        ∙ stepped m (letter_at ev (u, i)) (letter_of u l) (ap (letter u) e) (flagged_join m r n) (total m ev (g ∷ gs)) sum _ (plus_some m (word_value_back m ev g) (total m ev gs)).1,
   )
     where
       led : (a : List Position) → Flow ev u i a → (f : List Position) × LeadsTo ev u i n f × (a ≡ (u, i) ∷ f)

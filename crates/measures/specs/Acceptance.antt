@@ -28,7 +28,7 @@ Any P (w ∷ ws) = P w ⊎ Any P ws
 -- its bytes b.
 pub record Recognizes (b : List ℕ) (m : Meaning ℕ) (some all : ℕ → Bool) : Type 0 where
   pub labels_are : m.labels ≡ labels_in b
-  -- the set carried along a word holds just the state to which the word leads
+  -- the set of a word holds just the state to which the word leads
   pub one : (w : Word) → Labels (labels_in b) w → word_value m w ≡ 2 ^ state_after b w
   -- the union over a non-empty list of words holds exactly the states to which they lead
   pub union : (w : Word) (ws : List Word) → AllByRecursion (Labels (labels_in b)) (w ∷ ws) → (q : ℕ)

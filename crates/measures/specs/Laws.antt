@@ -12,7 +12,7 @@ use Rattle.measures.specs.Words.{Word}
 use Rattle.measures.specs.Measures.{Meaning, word_value, join_of}
 use Rattle.measures.specs.Worths.{measured_payload, measured_size}
 
--- the join, over a non-empty list of flows, of the measure carried along their words
+-- the join, over a non-empty list of flows, of the values of their words
 abbrev pub join_over : {V : Type 0} → Meaning V → Events → List Position → List (List Position) → V
 join_over m ev f fs = join_of m (word_value m (word ev f)) (map (λ g. word_value m (word ev g)) fs)
 

@@ -40,7 +40,7 @@ abbrev pub word_value_from : {V : Type 0} → Meaning V → V → Word → V
 word_value_from m v [] = v
 word_value_from m v (l ∷ w) = word_value_from m (m.step v l) w
 
--- The measure carried along a word is its start, stepped by each letter in turn.
+-- The value of a word is the start, stepped by each letter in turn.
 abbrev pub word_value : {V : Type 0} → Meaning V → Word → V
 word_value m w = word_value_from m m.start w
 
@@ -49,8 +49,8 @@ abbrev pub join_of : {V : Type 0} → Meaning V → V → List V → V
 join_of m v [] = v
 join_of m v (x ∷ xs) = join_of m (m.join v x) xs
 
--- Carrying the join of any non-empty list of admitted values along any word of its letters is joining what each value is carried to.
-abbrev pub Carries : {V : Type 0} → Meaning V → (V → Type 0) → Type 0
-Carries {V} m admits =
+-- Stepping the join of any non-empty list of admitted values by each letter of any word is joining what each value is stepped to.
+abbrev pub ThroughJoins : {V : Type 0} → Meaning V → (V → Type 0) → Type 0
+ThroughJoins {V} m admits =
     (v : V) (vs : List V) (w : Word) → admits v → AllByRecursion admits vs → Spelled m w
     → word_value_from m (join_of m v vs) w ≡ join_of m (word_value_from m v w) (map (λ x. word_value_from m x w) vs)

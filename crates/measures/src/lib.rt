@@ -7,7 +7,7 @@
 
 ghost use Rattle.std.specs.Prelude.{◌≡◌};
 ghost use Rattle.measures.specs.Laws.{LawOfRuns};
-ghost use Rattle.measures.specs.Measures.{Meaning, Lawful, word_value, Carries};
+ghost use Rattle.measures.specs.Measures.{Meaning, Lawful, word_value, ThroughJoins};
 
 pub mod boards;
 pub mod counts;
@@ -62,13 +62,13 @@ pub trait Measure {
     ghost lawful: { (m : Self) → Lawful (meaning m) (admits m) };
 }
 
-/// The measure carried along a word: its start, stepped by each letter in turn. It goes through joins (`carries`), and in every run of a board the
+/// The value of a word: the measure's start, stepped by each letter in turn. Steps go through joins (`joins`), and in every run of a board the
 /// value of each accepted mark is the join of what it makes of the words of the longest flows that end there, each taken once, whatever the order of
 /// the calls (`runs`).
-#[tactic(auto, using(crate::proofs::WordValueFacts::carried_more, crate::proofs::WordValueFacts::carries))]
-pub fn carry<M: Measure>(m: &M, word: &[Letter]) -> M::Value
+#[tactic(auto, using(crate::proofs::WordValueFacts::word_value_more, crate::proofs::WordValueFacts::through_joins))]
+pub fn value_along<M: Measure>(m: &M, word: &[Letter]) -> M::Value
     ensures value { result ≡ word_value (M.meaning m.now) word.now }
-    ensures carries { Carries (M.meaning m.now) (M.admits m.now) }
+    ensures joins { ThroughJoins (M.meaning m.now) (M.admits m.now) }
     ensures runs { LawOfRuns (M.meaning m.now) }
 {
     let mut v = m.start();

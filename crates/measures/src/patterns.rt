@@ -1,4 +1,4 @@
-//! The pattern: an automaton that accepts the good words, carried as the set of states that flows reach.
+//! The pattern: an automaton that accepts the good words, whose values are the sets of states that flows reach.
 ghost use Rattle.std.specs.Prelude.{◌≡◌, ℕ, ◌*◌, ◌^◌, ◌<◌, ◌≤◌, slice_index};
 ghost use Rattle.measures.specs.Limits.{most_entries};
 

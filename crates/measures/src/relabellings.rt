@@ -81,7 +81,7 @@ impl LabelTable {
 
 impl<M: Measure> Relabelling<M> {
     /// The relabelling to the labels of `inner` whose bytes begin where the cursor stands, with the fault of the first question that is answered no
-    /// (22, 19, 16, 20), told at its place in the whole input.
+    /// (22, 19, 16, 20), at its place in the whole input.
     pub fn read(cursor: Cursor<'_>, inner: M) -> Result<Relabelling<M>, Fault>
     where
         M: Drop,

@@ -17,7 +17,7 @@ fn first_too_large(table: &[u8], bound: u8) -> Option<usize>
     None
 }
 
-// The table of `count` entries where the cursor stands; a fault in it is told at its place in the whole input.
+// The table of `count` entries where the cursor stands; a fault in it has its place in the whole input.
 pub(crate) fn table<'a>(cursor: Cursor<'a>, count: usize, bound: u8) -> Result<&'a [u8], Fault>
     ensures { let fault = table_fault cursor.entry.input.now cursor.entry.place count bound in
         MatchResult result

@@ -108,11 +108,11 @@ module _ {V : Type 0} (m : Meaning V) (valued : MarksValued m) (limit n k n' k' 
     message_same : (e : Event) (by_marks : ℕ → Answer V) → ev u i ≡ Some e
         → ((x : Events) (a : Answer V) → MessageAnswered x u i e a → a ≡ by_marks (marks x u i)) → slice_get (answers u) i ≡ slice_get (answers' u) i
     message_same e by_marks is says =
-        let (r, told, said) = messages_answered V M z cs u i e is in
-        let (r', told', said') = messages_answered V M' z' ds u i e (subst (λ (x : Events). x u i ≡ Some e) events is) in
-        reply_there ((run M z cs).replies u) r told
+        let (r, stands, said) = messages_answered V M z cs u i e is in
+        let (r', stands', said') = messages_answered V M' z' ds u i e (subst (λ (x : Events). x u i ≡ Some e) events is) in
+        reply_there ((run M z cs).replies u) r stands
         ∙ ap Some (says ev r.answer said ∙ ap (λ (x : Events). by_marks (marks x u i)) events ∙ sym (says ev' r'.answer said'))
-        ∙ sym (reply_there ((run M' z' ds).replies u) r' told')
+        ∙ sym (reply_there ((run M' z' ds).replies u) r' stands')
 
     -- Each call is answered the same on both boards.
     answer_same : (e : Event) → ev u i ≡ Some e → slice_get (answers u) i ≡ slice_get (answers' u) i

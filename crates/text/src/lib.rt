@@ -1,4 +1,4 @@
-//! What programs read and print: the front of an input and the place in it where reading goes on, and a word in hexadecimal.
+//! What programs read and print: the beginning of an input, the place in it where reading goes on, and a word in hexadecimal.
 //! Stands on nothing here.
 #![tactic(auto)]
 

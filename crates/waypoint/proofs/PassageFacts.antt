@@ -1,4 +1,4 @@
--- What is carried along a word: both answers are yes if it contains the waypoint, and no if not.
+-- The value of a word: both answers are yes if it contains the waypoint, and no if not.
 use Rattle.std.proofs.Common.{◌≡◌, ℕ, Bool, true, false, [], ◌∷◌, ◌==◌, ◌||◌, ◌↔◌, if◌then◌else◌, Contains, IsTrue, refl, ap, ◌∙◌, subst, rules, slice_index_or}
 use Rattle.std.proofs.lemmas.Bool.{eqb-true, eq-eqb}
 use Rattle.std.proofs.lemmas.List.Folds.{Any-from_list_any, list_any-from_Any}
@@ -31,11 +31,11 @@ module _ (n label : ℕ) where
   has_from_contains w c = list_any-from_Any (λ l. l == label) w (c.0, label, c.1, c.2, eq-eqb label label refl)
 
   -- The waypoint, once passed, stays so; a word without it leaves the value.
-  carried_passages : (v : Passages) (w : Word)
+  word_value_passages : (v : Passages) (w : Word)
       → word_value_from (waypoint n label) v w ≡ (if has w then yes else v)
-  carried_passages v [] = refl
-  carried_passages v (l ∷ w) =
-      by_test (l == label) (has w) (carried_passages v w) (carried_passages yes w)
+  word_value_passages v [] = refl
+  word_value_passages v (l ∷ w) =
+      by_test (l == label) (has w) (word_value_passages v w) (word_value_passages yes w)
     where
       by_test : (here later : Bool)
           → word_value_from (waypoint n label) v w ≡ (if later then yes else v)
@@ -60,8 +60,8 @@ module _ (n label : ℕ) where
       answer_is true = passed
       answer_is false = not_yet
 
-      carried_answer : (w : Word) → answer (word_value (waypoint n label) w) ≡ has w
-      carried_answer w = ap answer (carried_passages (passages false false) w) ∙ answer_is (has w)
+      word_value_answer : (w : Word) → answer (word_value (waypoint n label) w) ≡ has w
+      word_value_answer w = ap answer (word_value_passages (passages false false) w) ∙ answer_is (has w)
 
       decided : (w : Word) → IsTrue (answer (word_value (waypoint n label) w)) ↔ Contains w label
-      decided w = rw (carried_answer w) (search (rules, contains_from_has, has_from_contains))
+      decided w = rw (word_value_answer w) (search (rules, contains_from_has, has_from_contains))

@@ -25,14 +25,14 @@ const SECOND: &str = "0 2 1 0000000000000010 0 0\n";
 
 const END: [u8; 1] = [0];
 
-fn reported(rt: &(impl Abort + AllocGlobal), input: &[u8], text: &str) -> Result<(), Fail> {
+fn assert_report(rt: &(impl Abort + AllocGlobal), input: &[u8], text: &str) -> Result<(), Fail> {
     let out = report(rt.alloc(), input)?;
     assert!(rt; out.as_slice() == text.as_bytes(), "not {text}");
     Ok(())
 }
 
 // The report on the front and a recording in pieces is the header and a text in pieces.
-fn told(rt: &(impl Abort + AllocGlobal), recording: &[&[u8]], text: &[&str]) -> Result<(), Fail> {
+fn assert_report_on(rt: &(impl Abort + AllocGlobal), recording: &[&[u8]], text: &[&str]) -> Result<(), Fail> {
     let mut input = FRONT.to_vec(rt.alloc())?;
     for piece in recording {
         input.extend_from_slice(piece)?;
@@ -42,22 +42,22 @@ fn told(rt: &(impl Abort + AllocGlobal), recording: &[&[u8]], text: &[&str]) -> 
     for piece in text {
         expected.push_str(piece)?;
     }
-    reported(rt, &input, &expected)
+    assert_report(rt, &input, &expected)
 }
 
 // A command breaks a recording off wherever it stands after the calls of BEGUN; the lines before it stay.
-fn breaks(rt: &(impl Abort + AllocGlobal), command: &[u8], fault: &str) -> Result<(), Fail> {
-    told(
+fn assert_broken(rt: &(impl Abort + AllocGlobal), command: &[u8], fault: &str) -> Result<(), Fail> {
+    assert_report_on(
         rt,
         &[&BEGUN, command, &BEACON, &END],
         &["fault ", fault, " 44\n"],
     )?;
-    told(
+    assert_report_on(
         rt,
         &[&BEGUN, &BEACON, command, &BEACON, &END],
         &[FIRST, "fault ", fault, " 47\n"],
     )?;
-    told(
+    assert_report_on(
         rt,
         &[&BEGUN, &BEACON, &BEACON, command],
         &[FIRST, SECOND, "fault ", fault, " 50\n"],
@@ -66,7 +66,7 @@ fn breaks(rt: &(impl Abort + AllocGlobal), command: &[u8], fault: &str) -> Resul
 
 #[test]
 fn the_lost_wake_up(rt: HostRuntime) -> Result<(), Fail> {
-    told(
+    assert_report_on(
         &rt,
         &[
             &MAKE,
@@ -79,13 +79,13 @@ fn the_lost_wake_up(rt: HostRuntime) -> Result<(), Fail> {
             "1 1 0 0000000000000002 0 0\n1 2 3 0000000000000010 0 0\nleft 0\n",
         ],
     )?;
-    told(&rt, &[&MAKE, &[2, 0, 0], &END], &["fault B 8 35\n"])
+    assert_report_on(&rt, &[&MAKE, &[2, 0, 0], &END], &["fault B 8 35\n"])
 }
 
 // A round at one unit fits. Of the two flows that end at unit 1's sound, one is a round, and one begins with a beacon: some fit, and not all.
 #[test]
 fn rounds_that_fit(rt: HostRuntime) -> Result<(), Fail> {
-    told(
+    assert_report_on(
         &rt,
         &[&MAKE, &[3, 0, 0, 3, 0, 2, 3, 0, 1, 1, 0, 0], &END],
         &[
@@ -93,7 +93,7 @@ fn rounds_that_fit(rt: HostRuntime) -> Result<(), Fail> {
             "0 3 1 0000000000000008 1 1\nleft 1\n",
         ],
     )?;
-    told(
+    assert_report_on(
         &rt,
         &[
             &MAKE,
@@ -144,7 +144,7 @@ fn faults_of_the_front(rt: HostRuntime) -> Result<(), Fail> {
         if let Some(at) = input.get_mut(place) {
             *at = byte;
         }
-        reported(&rt, &input, text)?;
+        assert_report(&rt, &input, text)?;
     }
     Ok(())
 }
@@ -167,7 +167,7 @@ fn commands_that_break_off(rt: HostRuntime) -> Result<(), Fail> {
         (&[3, 0, 3], "B 6"),
         (&[3, 1, 255], "B 6"),
     ] {
-        breaks(&rt, command, fault)?;
+        assert_broken(&rt, command, fault)?;
     }
     Ok(())
 }
@@ -197,7 +197,7 @@ fn commands_that_cannot_begin(rt: HostRuntime) -> Result<(), Fail> {
         (&[0x10, 2, 0, 2, 1, 0], "fault B 5 35\n"),
         (&[0x10, 2, 2, 3, 1, 3], "fault B 6 35\n"),
     ] {
-        told(&rt, &[recording], &[text])?;
+        assert_report_on(&rt, &[recording], &[text])?;
     }
     Ok(())
 }
@@ -216,7 +216,7 @@ fn commands_that_cannot_end(rt: HostRuntime) -> Result<(), Fail> {
         (&[0, 0x10, 0, 0], "fault R 28 39\n"),
         (&[1, 0, 1, 0], "left 1\n"),
     ] {
-        told(&rt, &[&MAKE, &BEACON, command], &[FIRST, text])?;
+        assert_report_on(&rt, &[&MAKE, &BEACON, command], &[FIRST, text])?;
     }
     Ok(())
 }
@@ -236,5 +236,5 @@ fn the_largest_input_and_one_byte_more(rt: HostRuntime) -> Result<(), Fail> {
     assert_eq!(rt; out.len(), 665756);
     assert!(rt; out.ends_with(b"\n0 21833 1 0000000000000002 0 0\nleft 0\n"));
     input.push(0)?;
-    reported(&rt, &input, "fault I 29 65536\n")
+    assert_report(&rt, &input, "fault I 29 65536\n")
 }

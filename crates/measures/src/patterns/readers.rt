@@ -54,7 +54,7 @@ impl Head {
 }
 
 impl Pattern {
-    /// The pattern at the beginning of the input, with the fault of the first question that is answered no (13 to 20). The set carried along words
+    /// The pattern at the beginning of the input, with the fault of the first question that is answered no (13 to 20). The set of words
     /// holds the states to which they lead (`recognizes`), and whatever calls a board was handed, the set answered at a mark those to which the
     /// longest flows that end there lead (`runs`).
     pub fn read(input: &[u8]) -> Result<Pattern, Fault>

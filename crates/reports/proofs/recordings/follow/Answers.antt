@@ -19,8 +19,8 @@ returns-in_err-command-clause-tells g c s shows =
     let l = c.loop-command in
     let place = c.args.from + (length c.args.bytes.now - length l.rest.now) in
     let (none, at) = first_command-err l.rest.now place c.first_command.result c.first_command.ensures c.with_place.ensures c.in_err-command.was in
-    let carried : c.from_residual.result ≡ Err c.in_err-command.field-0.0 = search rules in
-    missing (l.invariant.reached s shows) _ none _ (carried ∙ ap (λ (f : RecordingFault). Err f) at)
+    let passed_on : c.from_residual.result ≡ Err c.in_err-command.field-0.0 = search rules in
+    missing (l.invariant.reached s shows) _ none _ (passed_on ∙ ap (λ (f : RecordingFault). Err f) at)
 
 pub returns-in_err-line-in-Call-clause-tells : goal.returns-in_err-line-in-Call-clause-tells
 returns-in_err-line-in-Call-clause-tells g c s shows =
@@ -31,8 +31,8 @@ returns-in_err-line-in-Call-clause-tells g c s shows =
     let new = memory h.new.clocks h.new.flags h.new.values h.new.posts in
     let (x, obeys, said) = h.ensures in
     let (refused, at) = result_with_place-err place h.result c.with_place-in-Call.ensures c.in_err-line-in-Call.was in
-    let carried : c.from_residual-in_err-line-in-Call.result ≡ Err c.in_err-line-in-Call.field-0.0 = search rules in
-    refuses (l.invariant.reached s shows) first l.invariant.room {new = new} obeys said _ refused _ (carried ∙ ap (λ (f : RecordingFault). Err f) at)
+    let passed_on : c.from_residual-in_err-line-in-Call.result ≡ Err c.in_err-line-in-Call.field-0.0 = search rules in
+    refuses (l.invariant.reached s shows) first l.invariant.room {new = new} obeys said _ refused _ (passed_on ∙ ap (λ (f : RecordingFault). Err f) at)
 
 pub returns-in-End-clause-tells : goal.returns-in-End-clause-tells
 returns-in-End-clause-tells g c s shows =

@@ -28,9 +28,9 @@ returns-in_err-board-clause-tells g c =
     let (none, at) = result_with_place-err a.place c.with_reason.result c.with_place-2.ensures c.in_err-board.was in
     let (e, refused, why) = result_with_reason-err c.make-made.result c.with_reason.ensures none in
     let allowed = match_result-err _ (λ (d : Refusal). make_refusal n k room ≡ Some d) c.make-made.result c.make-made.ensures.board e refused in
-    let carried : c.from_residual-in_err-board.result ≡ Err c.in_err-board.field-0.0 = search rules in
+    let passed_on : c.from_residual-in_err-board.result ≡ Err c.in_err-board.field-0.0 = search rules in
     board_refused (g.J.Measure.meaning a.judge) (g.J.Judge.some_of a.judge) (g.J.Judge.all_of a.judge) a.place a.bytes.now c.in_ok-command.rest.now n k first e (sym by_size ∙ allowed)
-    a.page.now.text _ (carried ∙ ap (λ (f : RecordingFault). Err f) (at ∙ ap (λ q. fault_at q a.place) why))
+    a.page.now.text _ (passed_on ∙ ap (λ (f : RecordingFault). Err f) (at ∙ ap (λ q. fault_at q a.place) why))
 
 pub returns-clause-tells : goal.returns-clause-tells
 returns-clause-tells g c =

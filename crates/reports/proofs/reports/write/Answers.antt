@@ -14,11 +14,11 @@ returns-in_err-transcribe-clause-text c =
 
 pub returns-in_err-transcribe-clause-end : goal.returns-in_err-transcribe-clause-end
 returns-in_err-transcribe-clause-end c =
-    let carried : c.from_residual-in_err-transcribe.result ≡ Err (Recording c.in_err-transcribe.field-0.0) = search rules in
+    let passed_on : c.from_residual-in_err-transcribe.result ≡ Err (Recording c.in_err-transcribe.field-0.0) = search rules in
     let (sound, begins) = c.in_ok-judge.ensures.answer in
     let (m, some, all) = c.in_ok-judge.ensures.judge in
     let is_transcript = transcript_in-is c.args.input.now _ _ _ m some all c.in_ok-judge.from _ begins (take_rest c.args.input.now _) in
-    carried ∙ ap as_fault (sym c.in_err-transcribe.was) ∙ (report-headed c.args.input.now sound c.args.page.now.text c.push_header.new.page.text c.transcribe.new.page.text c.push_header.ensures.text _ is_transcript c.transcribe.result c.transcribe.ensures.tells).1
+    passed_on ∙ ap as_fault (sym c.in_err-transcribe.was) ∙ (report-headed c.args.input.now sound c.args.page.now.text c.push_header.new.page.text c.transcribe.new.page.text c.push_header.ensures.text _ is_transcript c.transcribe.result c.transcribe.ensures.tells).1
 
 pub returns-clause-text : goal.returns-clause-text
 returns-clause-text c =
