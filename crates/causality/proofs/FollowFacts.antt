@@ -27,7 +27,7 @@ module _ {V : Type 0} (M : Payload V) (z : Size) where
     taken_next = rw e refl
 
   module _ (c : Call) (old new : Memory V) where
-    -- It is taken in each state that the memory shows, leaves memory that shows the state after it, and tells the rule's answer.
+    -- It is taken in all contents that the memory shows, leaves memory that shows the contents after it, and tells the rule's answer.
     pub taken_follows : (a : Answer V) → ((s : Contents V) → Shows M.start z.units z.messages old s → refusal M z s c.unit c.event ≡ None)
         → ((s : Contents V) → Shows M.start z.units z.messages old s → Shows M.start z.units z.messages new (contents_after M z s c.unit c.event))
         → ((s : Contents V) → Shows M.start z.units z.messages old s → a ≡ answer_to M z c.unit c.event (s.rows c.unit) ((contents_after M z s c.unit c.event).rows c.unit))
@@ -45,7 +45,7 @@ module _ {V : Type 0} (M : Payload V) (z : Size) where
     kept_beyond : new ≡ old → SameBeyond M.start z.units z.messages old new
     kept_beyond same = subst (SameBeyond M.start z.units z.messages old) (sym same) (nothing_written M.start z.units z.messages old)
 
-    -- It is refused for e in each state that the memory shows, and leaves the memory.
+    -- It is refused for e in all contents that the memory shows, and leaves the memory.
     pub refused_follows : (e : Refusal) → ((s : Contents V) → Shows M.start z.units z.messages old s → refusal M z s c.unit c.event ≡ Some e) → new ≡ old → Follows M z c true old new (Err e)
     refused_follows e why same = record {
       answer = λ s sh. rw (why s sh) refl;

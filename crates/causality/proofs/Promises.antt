@@ -4,7 +4,7 @@ use Rattle.history.specs.Counting.{count_below}
 use Rattle.causality.specs.Boards.{EachShows}
 use Rattle.causality.proofs.LeftFacts
 
--- Each memory shows a state to a board, whatever was written into it.
+-- Each memory shows some contents to a board, whatever was written into it.
 pub each_shows : {V : Type 0} (start : V) (n k : ℕ) → EachShows start n k
 each_shows start n k = LeftFacts.each_shows start n k
 

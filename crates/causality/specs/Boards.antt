@@ -56,7 +56,8 @@ has_all_rows n k grid = grid.width == n && nat_le ((n + k) * n) (length grid.cel
 
 -- whether the memory is long enough for a board of n units and k messages: the first question of each call
 abbrev pub has_room : {V : Type 0} → ℕ → ℕ → Memory V → Bool
-has_room n k a = has_all_rows n k a.clocks && (has_all_rows n k a.flags && (has_all_rows n k a.values && nat_le k (length a.posts)))
+has_room n k a =
+    has_all_rows n k a.clocks && (has_all_rows n k a.flags && (has_all_rows n k a.values && nat_le k (length a.posts)))
 
 -- Each grid is as wide as before, and lent by the same lender.
 pub record SameLoans {V : Type 0} (old new : Memory V) : Type 0 where
@@ -95,9 +96,12 @@ pub record SameBeyond {V : Type 0} (start : V) (n k : ℕ) (old new : Memory V) 
 
 -- What a send, a receipt or a mark owes, whatever contents its memory shows: the answer or the refusal of the rules, and memory that shows the
 -- contents after it. `room` says whether the memory is long enough, the first question of each call.
-pub record Follows {V : Type 0} (M : Payload V) (z : Size) (c : Call) (room : Bool) (old new : Memory V) (r : Result (Answer V) Refusal) : Type 0 where
-  pub answer : (s : Contents V) → Shows M.start z.units z.messages old s → r ≡ (if room then outcome M z s c else Err MemoryTooShort)
-  pub contents : (s : Contents V) → Shows M.start z.units z.messages old s → Shows M.start z.units z.messages new (if room then next_contents M z s c else s)
+pub record Follows {V : Type 0} (M : Payload V) (z : Size) (c : Call) (room : Bool) (old new : Memory V)
+    (r : Result (Answer V) Refusal) : Type 0 where
+  pub answer : (s : Contents V) → Shows M.start z.units z.messages old s
+      → r ≡ (if room then outcome M z s c else Err MemoryTooShort)
+  pub contents : (s : Contents V) → Shows M.start z.units z.messages old s
+      → Shows M.start z.units z.messages new (if room then next_contents M z s c else s)
   pub beyond : SameBeyond M.start z.units z.messages old new
   pub refused : (e : Refusal) → r ≡ Err e → new ≡ old
 
@@ -109,7 +113,8 @@ pub record Makes {V : Type 0} (M : Payload V) (n k : ℕ) (refusal : Option Refu
 
 -- What a send, a receipt or a mark owes on a board of that setup: it follows the rules, and lends back what it was lent.
 pub record Obeys {V : Type 0} (b : Setup V) (c : Call) (old new : Memory V) (r : Result (Answer V) Refusal) : Type 0 where
-  pub follows : Follows (payload_on b.rules b.units) (size_on b.rules b.units b.messages) c (has_room b.units b.messages old) old new r
+  pub follows : Follows (payload_on b.rules b.units) (size_on b.rules b.units b.messages) c
+      (has_room b.units b.messages old) old new r
   pub loans : SameLoans old new
 
 -- The questions that a making asks, in their order; the first no gives the refusal.
@@ -119,7 +124,9 @@ make_refusal n k room =
 
 -- the state of message m, or why it is not told
 abbrev pub state_answer : ℕ → Bool → List Post → ℕ → Result Post Refusal
-state_answer k room posts m = if room then (if nat_lt m k then Ok (slice_index_or posts m unsent) else Err NoSuchMessage) else Err MemoryTooShort
+state_answer k room posts m =
+    if room then (if nat_lt m k then Ok (slice_index_or posts m unsent) else Err NoSuchMessage)
+    else Err MemoryTooShort
 
 -- how many of the messages below k are on their way
 abbrev pub left_among : (ℕ → Post) → ℕ → ℕ
@@ -131,7 +138,8 @@ left_answer k room posts = if room then Ok (left_among (λ m. slice_index_or pos
 
 -- What the making of a board of that setup owes to the memory.
 pub record Begins {V : Type 0} (b : Setup V) (old new : Memory V) : Type 0 where
-  pub makes : Makes (payload_on b.rules b.units) b.units b.messages (make_refusal b.units b.messages (has_room b.units b.messages old)) old new
+  pub makes : Makes (payload_on b.rules b.units) b.units b.messages
+      (make_refusal b.units b.messages (has_room b.units b.messages old)) old new
   pub loans : SameLoans old new
 
 module _ {P V : Type 0} {G : Ghosts P V} where

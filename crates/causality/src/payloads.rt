@@ -23,7 +23,8 @@ pub trait Payload {
         unit: usize,
         label: u8,
     ) -> Self::Value
-        ensures { (n : ℕ) (r : ℕ → Cell Self.Value) → Reads (rules self.now).start n r predecessors values.now
+        ensures { (n : ℕ) (r : ℕ → Cell Self.Value)
+            → Reads (rules self.now).start n r predecessors values.now
             → result ≡ (rules self.now).make n r unit label };
 
     /// Whether a unit may use a label.
@@ -33,7 +34,18 @@ pub trait Payload {
 
 /// Nothing is carried, and every label may be used.
 #[derive(Clone, Copy, PartialEq, Eq, Debug)]
-pub struct Bare;
+pub struct Bare {
+    nothing: (),
+}
+
+impl Bare {
+    /// What is carried on a board without measures: of every label a mark makes nothing, and each label may be used.
+    pub fn new() -> Bare
+        ensures { ⟦<Bare as Payload>⟧.rules result ≡ bare }
+    {
+        Bare { nothing: () }
+    }
+}
 
 impl Payload for Bare {
     type Value = ();

@@ -131,7 +131,7 @@ impl Memory {
         let flags = &mut Grid::new(first_cells(&mut self.flags, lent.cells[1]), lent.widths[1]);
         let values = &mut Grid::new(first_cells(&mut nothing, lent.cells[2]), lent.widths[2]);
         let posts = first_cells(&mut self.posts, lent.places);
-        refusals(Bare, board, clocks, flags, values, posts)
+        refusals(Bare::new(), board, clocks, flags, values, posts)
     }
 
     // The same of a board under the pattern.
@@ -204,7 +204,7 @@ impl Memory {
         let clocks = &mut Grid::new(first_cells(&mut self.clocks, 8), 2);
         let flags = &mut Grid::new(first_cells(&mut self.flags, 8), 2);
         let values = &mut Grid::new(&mut nothing, 2);
-        Board::make(Bare, 2, 2, clocks, flags, values, first_cells(&mut self.posts, 2))
+        Board::make(Bare::new(), 2, 2, clocks, flags, values, first_cells(&mut self.posts, 2))
     }
 
     // Hands a call to that one.
@@ -235,7 +235,7 @@ fn sizes_that_are_refused(rt: HostRuntime) -> Result<(), Fail> {
         let flags = &mut Grid::new(&mut [], units);
         let values = &mut Grid::new(&mut [], units);
         let nothing = &mut Grid::new(&mut [], units);
-        let bare = Board::make(Bare, units, messages, clocks, flags, nothing, &mut []);
+        let bare = Board::make(Bare::new(), units, messages, clocks, flags, nothing, &mut []);
         let made = Board::make(
             Measured { measure: count },
             units,
@@ -248,9 +248,9 @@ fn sizes_that_are_refused(rt: HostRuntime) -> Result<(), Fail> {
         assert_eq!(rt; refused(bare), Some(number));
         assert_eq!(rt; refused(made), Some(number));
     }
-    assert_eq!(rt; refused(Board::of_size(Bare, 0, 256)), Some(1));
-    assert_eq!(rt; refused(Board::of_size(Bare, 16, 256)), Some(2));
-    assert_eq!(rt; refused(Board::of_size(Bare, 16, 255)), None);
+    assert_eq!(rt; refused(Board::of_size(Bare::new(), 0, 256)), Some(1));
+    assert_eq!(rt; refused(Board::of_size(Bare::new(), 16, 256)), Some(2));
+    assert_eq!(rt; refused(Board::of_size(Bare::new(), 16, 255)), None);
     Ok(())
 }
 
@@ -261,7 +261,7 @@ fn largest(cells: usize) -> Result<Board<Bare>, Refusal> {
     let clocks = &mut Grid::new(first_cells(&mut clocks, cells), 16);
     let flags = &mut Grid::new(first_cells(&mut flags, cells), 16);
     let values = &mut Grid::new(&mut nothing, 16);
-    Board::make(Bare, 16, 255, clocks, flags, values, &mut posts)
+    Board::make(Bare::new(), 16, 255, clocks, flags, values, &mut posts)
 }
 
 #[test]
@@ -276,7 +276,7 @@ fn memory_that_is_too_short(rt: HostRuntime) -> Result<(), Fail> {
     let pattern = Pattern::read(&PATTERN)?;
     let mut memory = WRITTEN_BEFORE;
     let made = memory.make(pattern)?;
-    let bare = Board::of_size(Bare, 2, 2)?;
+    let bare = Board::of_size(Bare::new(), 2, 2)?;
     memory = WRITTEN_BEFORE;
     for lent in SHORT {
         assert_eq!(rt; memory.refusals(&bare, lent), [Some(3); 6]);
@@ -370,7 +370,7 @@ fn the_last_mark_of_a_unit(rt: HostRuntime) -> Result<(), Fail> {
         refused(made.mark(clocks, flags, values, &[], 0, 0)),
         Some(10)
     );
-    let bare = Board::of_size(Bare, 1, 0)?;
+    let bare = Board::of_size(Bare::new(), 1, 0)?;
     let mut nothing = [()];
     let nothing = &mut Grid::new(&mut nothing, 1);
     assert_eq!(rt;
@@ -419,7 +419,7 @@ fn the_player_waits_first(rt: HostRuntime) -> Result<(), Fail> {
 fn a_message_on_its_way(rt: HostRuntime) -> Result<(), Fail> {
     let mut memory = WRITTEN_BEFORE;
     let board = memory.make(Pattern::read(&PATTERN)?)?;
-    let bare = Board::of_size(Bare, 2, 2)?;
+    let bare = Board::of_size(Bare::new(), 2, 2)?;
     let call = Call {
         unit: 1,
         event: Event::Send(0),
@@ -527,7 +527,7 @@ where
     )?;
     let mut nothing = [(); 18];
     let nothing = &Grid::new(&mut nothing, 3);
-    let left = Board::of_size(Bare, 3, 3)?.left(clocks, flags, nothing, &posts)?;
+    let left = Board::of_size(Bare::new(), 3, 3)?.left(clocks, flags, nothing, &posts)?;
     Ok((count, left))
 }
 

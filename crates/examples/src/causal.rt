@@ -96,7 +96,7 @@ fn a_message_overtaken_by_an_indirect_one(rt: HostRuntime) -> Result<(), Fail> {
     let mut posts = [Post::Delivered, Post::OnItsWay, Post::OnItsWay];
     let mut nothing = [(); 18];
     let nothing = &mut Grid::new(&mut nothing, 3);
-    let board = Board::of_size(Bare, 3, 3)?;
+    let board = Board::of_size(Bare::new(), 3, 3)?;
     assert_eq!(rt;
         board.receive(&mut clock_rows, &mut flag_rows, nothing, &mut posts, 2, 2),
         Ok(0)

@@ -26,18 +26,18 @@ module _ {V : Type 0} (M : Payload V) (z : Size) where
         (λ n. a.unsent_row m n ∙ sym (b.unsent_row m n))
         (sent_or_not (at logs) m (s.posts m) (a.posts_are m)))
 
-    pub same_state : s ≡ t
-    same_state = let posts : s.posts ≡ t.posts = fun_ext (λ m. stated_one (at logs) m (s.posts m) (t.posts m) (a.posts_are m) (b.posts_are m)) in grind (arith, same_rows, same_message_rows)
+    pub same_contents : s ≡ t
+    same_contents = let posts : s.posts ≡ t.posts = fun_ext (λ m. stated_one (at logs) m (s.posts m) (t.posts m) (a.posts_are m) (b.posts_are m)) in grind (arith, same_rows, same_message_rows)
 
   -- the same accepted calls unit by unit: the same history
   pub same_history : (cs ds : List Call) → ((u : ℕ) → (run M z cs).log u ≡ (run M z ds).log u) → run M z cs ≡ run M z ds
-  same_history cs ds same = built (run M z cs) (run M z ds) states logs replies
+  same_history cs ds same = built (run M z cs) (run M z ds) contents logs replies
     where
       logs : (run M z cs).log ≡ (run M z ds).log
       logs = fun_ext same
 
-      states : (run M z cs).contents ≡ (run M z ds).contents
-      states = same_state (run M z cs).log (run M z cs).contents (run M z ds).contents (sound_run M z cs) (rw logs (sound_run M z ds))
+      contents : (run M z cs).contents ≡ (run M z ds).contents
+      contents = same_contents (run M z cs).log (run M z cs).contents (run M z ds).contents (sound_run M z cs) (rw logs (sound_run M z ds))
 
       replies : (run M z cs).replies ≡ (run M z ds).replies
       replies = fun_ext (same_told M z (run M z cs).log (run M z cs).replies (run M z ds).replies (sound_run M z cs).once (said_run M z cs) (rw logs (said_run M z ds)))

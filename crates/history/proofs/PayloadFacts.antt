@@ -70,13 +70,13 @@ module _ {V W : Type 0} where
 
     -- two histories that differ in nothing but what cells carry
     record Twin (g : History V) (h : History W) : Type 0 where
-      states : SameButValues g.contents h.contents
+      contents_alike : SameButValues g.contents h.contents
       logs : g.log ≡ h.log
 
     twin_after : (g : History V) (h : History W) → Twin g h → (c : Call) → Twin (history_after M z g c) (history_after N z h c)
     twin_after g h t c = record {
-      states = same_next g.contents h.contents t.states c;
-      logs = rw (same_refusal g.contents h.contents t.states c.unit c.event, t.logs) refl;
+      contents_alike = same_next g.contents h.contents t.contents_alike c;
+      logs = rw (same_refusal g.contents h.contents t.contents_alike c.unit c.event, t.logs) refl;
     }
 
     twin_run : (g : History V) (h : History W) → Twin g h → (cs : List Call) → Twin (run_from M z g cs) (run_from N z h cs)
@@ -85,17 +85,17 @@ module _ {V W : Type 0} where
 
     twins : (cs : List Call) → Twin (run M z cs) (run N z cs)
     twins cs = twin_run (new_history M) (new_history N) (record {
-      states = record { clocks = λ w j. refl; flags = λ w j. refl; message_clocks = λ m j. refl; message_flags = λ m j. refl; posts = λ m. refl };
+      contents_alike = record { clocks = λ w j. refl; flags = λ w j. refl; message_clocks = λ m j. refl; message_flags = λ m j. refl; posts = λ m. refl };
       logs = refl;
     }) cs
 
-    pub carries_freely : IgnoresPayload M N z
-    carries_freely = record {
+    pub ignores_payload : IgnoresPayload M N z
+    ignores_payload = record {
       refusals = same_refusal;
       step = same_next;
       logs = λ cs u. ap (λ (log : Logs). log u) (twins cs).logs;
-      states = λ cs. (twins cs).states;
+      contents_alike = λ cs. (twins cs).contents_alike;
     }
 
 pub payload_free : (V W : Type 0) → PayloadFree V W
-payload_free V W M N z = carries_freely M N z
+payload_free V W M N z = ignores_payload M N z

@@ -68,16 +68,34 @@ module _ {V : Type 0} (M : Payload V) where
   module _ (z : Size) where
     -- The questions of each call in their order; the first no gives the refusal.
     abbrev pub refusal : Contents V → ℕ → Event → Option Refusal
-    refusal s u (Send m) = ask (nat_lt u z.units) NoSuchUnit (ask (nat_lt m z.messages) NoSuchMessage (result_err (handled_post (s.posts m) Sending)))
-    refusal s u (Receive m) = ask (nat_lt u z.units) NoSuchUnit (ask (nat_lt m z.messages) NoSuchMessage (result_err (handled_post (s.posts m) Receiving)))
-    refusal s u (Mark l) = ask (nat_lt u z.units) NoSuchUnit (ask (z.fits u l) NoSuchLabel (ask (nat_lt (s.rows u u).clock z.limit) ClockFull None))
+    refusal s u (Send m) =
+        ask (nat_lt u z.units) NoSuchUnit
+        (ask (nat_lt m z.messages) NoSuchMessage (result_err (handled_post (s.posts m) Sending)))
+    refusal s u (Receive m) =
+        ask (nat_lt u z.units) NoSuchUnit
+        (ask (nat_lt m z.messages) NoSuchMessage (result_err (handled_post (s.posts m) Receiving)))
+    refusal s u (Mark l) =
+        ask (nat_lt u z.units) NoSuchUnit
+        (ask (z.fits u l) NoSuchLabel (ask (nat_lt (s.rows u u).clock z.limit) ClockFull None))
 
     -- The contents after an accepted call: a send copies the unit's row to the message's, a receipt merges the message's row into
     -- the unit's, a mark rewrites the unit's row.
     abbrev pub contents_after : Contents V → ℕ → Event → Contents V
-    contents_after s u (Send m) = record { rows = s.rows; message_rows = put s.message_rows m (s.rows u); posts = put s.posts m (result_unwrap_or (handled_post (s.posts m) Sending) (s.posts m)) }
-    contents_after s u (Receive m) = record { rows = put s.rows u (merge_row M.start (s.rows u) (s.message_rows m)); message_rows = s.message_rows; posts = put s.posts m (result_unwrap_or (handled_post (s.posts m) Receiving) (s.posts m)) }
-    contents_after s u (Mark l) = record { rows = put s.rows u (mark_row M u l (s.rows u)); message_rows = s.message_rows; posts = s.posts }
+    contents_after s u (Send m) = record {
+      rows = s.rows;
+      message_rows = put s.message_rows m (s.rows u);
+      posts = put s.posts m (result_unwrap_or (handled_post (s.posts m) Sending) (s.posts m));
+    }
+    contents_after s u (Receive m) = record {
+      rows = put s.rows u (merge_row M.start (s.rows u) (s.message_rows m));
+      message_rows = s.message_rows;
+      posts = put s.posts m (result_unwrap_or (handled_post (s.posts m) Receiving) (s.posts m));
+    }
+    contents_after s u (Mark l) = record {
+      rows = put s.rows u (mark_row M u l (s.rows u));
+      message_rows = s.message_rows;
+      posts = s.posts;
+    }
 
     -- The answer to an accepted call, from the unit's row before it and after it.
     abbrev pub answer_to : ℕ → Event → (ℕ → Cell V) → (ℕ → Cell V) → Answer V
@@ -95,7 +113,9 @@ module _ {V : Type 0} (M : Payload V) where
 
     -- The answer to a call, or its refusal.
     abbrev pub outcome : Contents V → Call → Result (Answer V) Refusal
-    outcome s c = answer_or_refusal (refusal s c.unit c.event) (answer_to c.unit c.event (s.rows c.unit) ((contents_after s c.unit c.event).rows c.unit))
+    outcome s c =
+        answer_or_refusal (refusal s c.unit c.event)
+        (answer_to c.unit c.event (s.rows c.unit) ((contents_after s c.unit c.event).rows c.unit))
 
     -- What each call of a list is answered, or why it is refused, from some contents on.
     abbrev pub outcomes_from : Contents V → List Call → List (Result (Answer V) Refusal)
@@ -117,7 +137,8 @@ module _ {V : Type 0} (M : Payload V) where
       contents = next_contents h.contents c;
       log = if_taken (refusal h.contents c.unit c.event) (with_entry h.log c.unit c.event) h.log;
       replies = if_taken (refusal h.contents c.unit c.event)
-          (with_entry h.replies c.unit (reply c.unit c.event (h.contents.rows c.unit) ((contents_after h.contents c.unit c.event).rows c.unit)))
+          (with_entry h.replies c.unit
+          (reply c.unit c.event (h.contents.rows c.unit) ((contents_after h.contents c.unit c.event).rows c.unit)))
           h.replies;
     }
 
@@ -133,7 +154,10 @@ module _ {V : Type 0} (M : Payload V) where
     -- the calls of a list that are accepted after a history
     abbrev pub accepted_calls_from : History V → List Call → List Call
     accepted_calls_from h [] = []
-    accepted_calls_from h (c ∷ cs) = if_taken (refusal h.contents c.unit c.event) (c ∷ accepted_calls_from (history_after h c) cs) (accepted_calls_from (history_after h c) cs)
+    accepted_calls_from h (c ∷ cs) =
+        if_taken (refusal h.contents c.unit c.event)
+        (c ∷ accepted_calls_from (history_after h c) cs)
+        (accepted_calls_from (history_after h c) cs)
 
     -- the calls of a list that are accepted
     abbrev pub accepted_calls : List Call → List Call

@@ -62,7 +62,9 @@ answers_of u (c ∷ cs) (Err e ∷ os) = answers_of u cs os
 
 -- The replies that each unit got are the answers to its accepted calls, in the order handed in.
 abbrev pub RepliesAreAnswers : Type 0 → Type 0
-RepliesAreAnswers V = (M : Payload V) (z : Size) (cs : List Call) (u : ℕ) → map (λ r. r.answer) ((run M z cs).replies u) ≡ answers_of u cs (outcomes M z cs)
+RepliesAreAnswers V =
+    (M : Payload V) (z : Size) (cs : List Call) (u : ℕ)
+    → map (λ r. r.answer) ((run M z cs).replies u) ≡ answers_of u cs (outcomes M z cs)
 
 -- Two histories agree: all rows of units and of messages are equal, what became of the messages, and each unit's replies.
 pub record SameHistory {V : Type 0} (g h : History V) : Type 0 where
@@ -82,7 +84,8 @@ pub record OrderFree {V : Type 0} (M : Payload V) (z : Size) (cs ds : List Call)
 -- This is so for any two lists whose accepted calls are the same unit by unit.
 abbrev pub RunsOrderFree : Type 0 → Type 0
 RunsOrderFree V =
-    (M : Payload V) (z : Size) (cs ds : List Call) → SameByUnit (accepted_calls M z cs) (accepted_calls M z ds) → OrderFree M z cs ds
+    (M : Payload V) (z : Size) (cs ds : List Call)
+    → SameByUnit (accepted_calls M z cs) (accepted_calls M z ds) → OrderFree M z cs ds
 
 -- Accepted is what a real run could do, no more and no less.
 pub record AcceptsRuns {V : Type 0} (M : Payload V) (z : Size) (cs : List Call) : Type 0 where
@@ -120,11 +123,13 @@ pub record SameButValues {V W : Type 0} (s : Contents V) (t : Contents W) : Type
 -- What cells carry changes nothing else, whatever two boards carry.
 pub record IgnoresPayload {V W : Type 0} (M : Payload V) (N : Payload W) (z : Size) : Type 0 where
   -- in contents that differ in nothing else, a call is taken by both boards or refused by both for one reason, and leaves such contents
-  pub refusals : (s : Contents V) (t : Contents W) → SameButValues s t → (u : ℕ) (e : Event) → refusal M z s u e ≡ refusal N z t u e
-  pub step : (s : Contents V) (t : Contents W) → SameButValues s t → (c : Call) → SameButValues (next_contents M z s c) (next_contents N z t c)
+  pub refusals : (s : Contents V) (t : Contents W) → SameButValues s t → (u : ℕ) (e : Event)
+      → refusal M z s u e ≡ refusal N z t u e
+  pub step : (s : Contents V) (t : Contents W) → SameButValues s t → (c : Call)
+      → SameButValues (next_contents M z s c) (next_contents N z t c)
   -- so the same calls lead to the same logs, and to such contents
   pub logs : (cs : List Call) (u : ℕ) → (run M z cs).log u ≡ (run N z cs).log u
-  pub states : (cs : List Call) → SameButValues (run M z cs).contents (run N z cs).contents
+  pub contents_alike : (cs : List Call) → SameButValues (run M z cs).contents (run N z cs).contents
 
 -- This is so for any two payloads.
 abbrev pub PayloadFree : Type 0 → Type 0 → Type 0

@@ -27,13 +27,17 @@ Ordered ev u i v j Concurrent = (Here u i v j → ⊥) × (Before ev u i v j →
 -- The answer for the stamps p and q of marks of the units u and v.
 abbrev pub stamp_order : (ℕ → ℕ) → (ℕ → ℕ) → ℕ → ℕ → Precedence
 stamp_order p q u v =
-    if u == v && p u == q u then Same else (if nat_le (p u) (q u) then Precedes else (if nat_le (q v) (p v) then Follows else Concurrent))
+    if u == v && p u == q u then Same
+    else (if nat_le (p u) (q u) then Precedes
+    else (if nat_le (q v) (p v) then Follows else Concurrent))
 
 -- Are the stamps equally long, from 1 to the most units that a board has? Are both units below that length?
 abbrev pub compare_refusal : List ℕ → List ℕ → ℕ → ℕ → Option Refusal
 compare_refusal p q u v =
-    ask (length p == length q && (nat_le 1 (length p) && nat_le (length p) most_units)) StampLength (ask (nat_lt u (length p) && nat_lt v (length p)) NoSuchUnit None)
+    ask (length p == length q && (nat_le 1 (length p) && nat_le (length p) most_units)) StampLength
+    (ask (nat_lt u (length p) && nat_lt v (length p)) NoSuchUnit None)
 
 -- The answer of a comparison, or why it is refused.
 abbrev pub compare_answer : List ℕ → List ℕ → ℕ → ℕ → Result Precedence Refusal
-compare_answer p q u v = answer_or_refusal (compare_refusal p q u v) (stamp_order (λ w. slice_index p w) (λ w. slice_index q w) u v)
+compare_answer p q u v =
+    answer_or_refusal (compare_refusal p q u v) (stamp_order (λ w. slice_index p w) (λ w. slice_index q w) u v)

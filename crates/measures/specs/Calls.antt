@@ -19,7 +19,8 @@ abbrev pub judged_value : {V : Type 0} → (V → Bool) → (V → Bool) → V �
 judged_value some all v = record { value = v; verdict = record { some = some v; all = all v } }
 
 -- What a call owes under a judge with these two answers: it obeys the rules, and a mark's value has the verdict beside it.
-pub record ObeysJudged {V : Type 0} (some all : V → Bool) (b : Setup V) (c : Call) (old new : Memory V) (r : Result (Answer (JudgedValue V)) Refusal) : Type 0 where
+pub record ObeysJudged {V : Type 0} (some all : V → Bool) (b : Setup V) (c : Call) (old new : Memory V)
+    (r : Result (Answer (JudgedValue V)) Refusal) : Type 0 where
   pub answer : Result (Answer V) Refusal
   pub obeys : Obeys b c old new answer
   pub judged : r ≡ result_as (answer_map (judged_value some all)) answer

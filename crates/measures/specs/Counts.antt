@@ -1,5 +1,5 @@
 -- The flow count.
-use Rattle.std.specs.Prelude.{◌≡◌, ℕ, ◌+◌, ◌^◌, ◌<◌, ◌≤◌, min}
+use Rattle.std.specs.Prelude.{◌≡◌, ℕ, ◌+◌, ◌<◌, ◌≤◌, min}
 use Rattle.std.proofs.Common.{rules}
 use Rattle.history.specs.Counting.{HowMany}
 use Rattle.history.specs.Events.{Events}

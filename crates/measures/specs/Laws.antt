@@ -29,7 +29,8 @@ pub record Valued {V : Type 0} (m : Meaning V) (n k limit : ℕ) (cs : List Call
   pub all : Exactly (Longest (accepted_events m n k limit cs) u i) (flow ∷ flows)
   pub value_is : answered.value ≡ join_over m (accepted_events m n k limit cs) flow flows
   -- and any other such list has the same join
-  pub value_any : (f : List Position) (fs : List (List Position)) → Exactly (Longest (accepted_events m n k limit cs) u i) (f ∷ fs)
+  pub value_any : (f : List Position) (fs : List (List Position))
+      → Exactly (Longest (accepted_events m n k limit cs) u i) (f ∷ fs)
       → answered.value ≡ join_over m (accepted_events m n k limit cs) f fs
 
 -- Each accepted mark's value is the join of the measure along the longest flows that end there, each taken exactly once.
@@ -40,7 +41,9 @@ MarksValued m =
 -- The law of runs under a measure: what marks are told, and that nothing depends on the order in which units act.
 pub record LawOfRuns {V : Type 0} (m : Meaning V) : Type 0 where
   pub marks_valued : MarksValued m
-  pub order_free : (n k limit : ℕ) (cs ds : List Call) → SameByUnit (accepted_calls (measured_payload m n) (measured_size m n k limit) cs) (accepted_calls (measured_payload m n) (measured_size m n k limit) ds)
+  pub order_free : (n k limit : ℕ) (cs ds : List Call)
+      → SameByUnit (accepted_calls (measured_payload m n) (measured_size m n k limit) cs)
+          (accepted_calls (measured_payload m n) (measured_size m n k limit) ds)
       → OrderFree (measured_payload m n) (measured_size m n k limit) cs ds
 
 -- What two answers of a judge say of the longest flows that end at position i of unit u: some is yes exactly when one of them is

@@ -33,7 +33,8 @@ pub record Lawful {V : Type 0} (m : Meaning V) (admits : V → Type 0) : Type 0 
   pub unlabelled : (a : V) (l : Letter) → (Fits m l → ⊥) → m.step a l ≡ a
   pub commutes : (a b : V) → admits a → admits b → m.join a b ≡ m.join b a
   pub associates : (a b c : V) → admits a → admits b → admits c → m.join (m.join a b) c ≡ m.join a (m.join b c)
-  pub distributes : (a b : V) (l : Letter) → admits a → admits b → Fits m l → m.step (m.join a b) l ≡ m.join (m.step a l) (m.step b l)
+  pub distributes : (a b : V) (l : Letter) → admits a → admits b → Fits m l
+      → m.step (m.join a b) l ≡ m.join (m.step a l) (m.step b l)
 
 -- v stepped by each letter of a word in turn
 abbrev pub word_value_from : {V : Type 0} → Meaning V → V → Word → V

@@ -18,7 +18,9 @@ module _ {V : Type 0} (m : Meaning V) (n k : ℕ) (cs : List Call) where
     pub rest : SameFrom (Err MemoryTooShort) count before after
 
   -- What a replay answers: the number of calls that were handed over, or why no board was made; then nothing has changed.
-  abbrev pub ReplayAnswer : Memory V → Memory V → List (Result (Answer V) Refusal) → List (Result (Answer V) Refusal) → Result ℕ Refusal → Type 0
+  abbrev pub ReplayAnswer : Memory V → Memory V → List (Result (Answer V) Refusal) → List (Result (Answer V) Refusal)
+      → Result ℕ Refusal → Type 0
   ReplayAnswer old new before after r =
       let refusal = make_refusal n k (has_room n k old) in
-      MatchResult r (λ count. (refusal ≡ None) × Replayed count old new before after) (λ e. (refusal ≡ Some e) × (new ≡ old) × (after ≡ before))
+      MatchResult r (λ count. (refusal ≡ None) × Replayed count old new before after)
+      (λ e. (refusal ≡ Some e) × (new ≡ old) × (after ≡ before))

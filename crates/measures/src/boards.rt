@@ -44,8 +44,10 @@ impl<M: Measure> Payload for Measured<M> {
 
 // What a mark is answered, with the judge's verdict beside its value.
 fn judged_mark<J: Judge>(judge: &J, mark: Marked<J::Value>) -> Marked<JudgedValue<J::Value>>
-    ensures answer { marked result ≡ answer_map (judged_value (J.Judge.some_of judge.now) (J.Judge.all_of judge.now)) (marked mark) }
-    ensures flows { MarksJudged (J.Measure.meaning judge.now) (J.Judge.some_of judge.now) (J.Judge.all_of judge.now) (J.Judge.good judge.now) }
+    ensures answer { let answers = judged_value (J.Judge.some_of judge.now) (J.Judge.all_of judge.now) in
+        marked result ≡ answer_map answers (marked mark) }
+    ensures flows { MarksJudged (J.Measure.meaning judge.now)
+        (J.Judge.some_of judge.now) (J.Judge.all_of judge.now) (J.Judge.good judge.now) }
 {
     let verdict = verdicts(judge, mark.value);
     Marked {
@@ -70,11 +72,13 @@ pub fn mark_judged<J: Judge>(
     label: u8,
 ) -> Result<Marked<JudgedValue<J::Value>>, Refusal>
     ensures obeys { let judge = (payload_of board.now).measure in
-        ObeysJudged (J.Judge.some_of judge) (J.Judge.all_of judge) (setup_of board.now) (call unit (Mark label))
+        ObeysJudged (J.Judge.some_of judge) (J.Judge.all_of judge)
+        (setup_of board.now) (call unit (Mark label))
         (memory clocks.old flags.old values.old posts.now)
         (memory clocks.new flags.new values.new posts.now) (result_as marked result) }
     ensures good { let judge = (payload_of board.now).measure in
-        OnOk result (MarksGood (J.Measure.meaning judge) (J.Judge.some_of judge) (J.Judge.all_of judge) (J.Judge.good judge)) }
+        OnOk result (MarksGood (J.Measure.meaning judge)
+        (J.Judge.some_of judge) (J.Judge.all_of judge) (J.Judge.good judge)) }
 {
     let mark = board.mark(clocks, flags, values, posts, unit, label)?;
     Ok(judged_mark(&board.payload().measure, mark))
@@ -100,7 +104,8 @@ pub fn hand_judged<J: Judge>(
 
 /// What a call is answered, with the judge's verdict beside the value of a mark.
 pub fn judged_answer<J: Judge>(judge: &J, answer: Answer<J::Value>) -> Answer<JudgedValue<J::Value>>
-    ensures { result ≡ answer_map (judged_value (J.Judge.some_of judge.now) (J.Judge.all_of judge.now)) answer }
+    ensures { let answers = judged_value (J.Judge.some_of judge.now) (J.Judge.all_of judge.now) in
+        result ≡ answer_map answers answer }
 {
     match answer {
         Answer::Sent(clock) => Answer::Sent(clock),

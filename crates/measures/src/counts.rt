@@ -19,7 +19,8 @@ impl FlowCount {
     /// mark is the number of the longest flows that end there (`runs`).
     pub fn new(labels: u8) -> Result<FlowCount, Refusal>
         ensures answer { MatchResult result
-            (λ m. (flow_count_refusal labels ≡ None) × (⟦<FlowCount as Measure>⟧.meaning m ≡ flow_count labels))
+            (λ m. (flow_count_refusal labels ≡ None)
+            × (⟦<FlowCount as Measure>⟧.meaning m ≡ flow_count labels))
             (λ e. flow_count_refusal labels ≡ Some e) }
         ensures runs { IfOk result (λ m. MarksCounted (⟦<FlowCount as Measure>⟧.meaning m)) }
     {

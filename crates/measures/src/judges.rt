@@ -19,12 +19,14 @@ pub trait Judge: Measure {
     /// Whether some word that v stands for is good.
     fn some(&self, v: Self::Value) -> bool
         ensures answer { result ≡ some_of self.now v }
-        ensures judges { Judges ◌||◌ (Self.Measure.meaning self.now) (Self.Measure.admits self.now) (some_of self.now) (good self.now) };
+        ensures judges { Judges ◌||◌ (Self.Measure.meaning self.now) (Self.Measure.admits self.now)
+            (some_of self.now) (good self.now) };
 
     /// Whether each word that v stands for is good.
     fn all(&self, v: Self::Value) -> bool
         ensures answer { result ≡ all_of self.now v }
-        ensures judges { Judges ◌&&◌ (Self.Measure.meaning self.now) (Self.Measure.admits self.now) (all_of self.now) (good self.now) };
+        ensures judges { Judges ◌&&◌ (Self.Measure.meaning self.now) (Self.Measure.admits self.now)
+            (all_of self.now) (good self.now) };
 }
 
 /// What a judge says of a value: whether some, and whether all, of the words that it stands for are good.
@@ -46,7 +48,8 @@ pub struct JudgedValue<V> {
 pub fn verdicts<J: Judge>(j: &J, v: J::Value) -> Verdict
     ensures some { result.some ≡ J.Judge.some_of j.now v }
     ensures all { result.all ≡ J.Judge.all_of j.now v }
-    ensures flows { MarksJudged (J.Measure.meaning j.now) (J.Judge.some_of j.now) (J.Judge.all_of j.now) (J.Judge.good j.now) }
+    ensures flows { MarksJudged (J.Measure.meaning j.now)
+        (J.Judge.some_of j.now) (J.Judge.all_of j.now) (J.Judge.good j.now) }
 {
     let some = j.some(v);
     let all = j.all(v);

@@ -38,7 +38,8 @@ fn gather<M: Measure>(m: &M, set: u64, values: &[M::Value]) -> Option<M::Value>
 /// it: the values of the set's members, joined in rising order, or the start if there are none, and then stepped by the letter. It is the worth of
 /// every row that has these flags and values, for any unit.
 pub fn mark_value<M: Measure>(m: &M, predecessors: u64, values: &[M::Value], l: Letter) -> M::Value
-    ensures { (n : ℕ) (r : ℕ → Cell M.Value) → Reads (M.meaning m.now).start n r predecessors values.now
+    ensures { (n : ℕ) (r : ℕ → Cell M.Value)
+        → Reads (M.meaning m.now).start n r predecessors values.now
         → (u : ℕ) → result ≡ worth (M.meaning m.now) n r u l }
 {
     let before = gather(m, predecessors, values).unwrap_or(m.start());

@@ -31,7 +31,8 @@ const MOST_ENTRIES: usize = 4096;
 pub struct Pattern {
     head: Head,
     table: [u8; MOST_ENTRIES],
-    ghost complete: { (k : ℕ) → k < head.states.number * head.labels.number → slice_index table k < head.states.number },
+    ghost complete: { (k : ℕ) → k < head.states.number * head.labels.number
+        → slice_index table k < head.states.number },
 }
 
 impl Head {

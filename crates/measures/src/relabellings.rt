@@ -90,9 +90,10 @@ impl<M: Measure> Relabelling<M> {
             MatchResult result
             (λ r. (fault ≡ None) × IsRelabellingOf cursor.entry.input.now cursor.entry.place inner r)
             (λ f. fault ≡ Some f) }
-        ensures meaning { let entries = with_zeros most_labels (entries_in cursor.entry.input.now cursor.entry.place) in
-            let count = relabelling_labels_in cursor.entry.input.now cursor.entry.place in
-            IfOk result (λ r. ⟦<Relabelling<M> as Measure>⟧.meaning r ≡ relabelling entries count (M.meaning inner)) }
+        ensures meaning { let b = cursor.entry.input.now in
+            let at = cursor.entry.place in
+            IfOk result (λ r. ⟦<Relabelling<M> as Measure>⟧.meaning r
+            ≡ relabelling (with_zeros most_labels (entries_in b at)) (relabelling_labels_in b at) (M.meaning inner)) }
     {
         let table = LabelTable::read(cursor, inner.labels())?;
         Ok(Relabelling { table, inner })

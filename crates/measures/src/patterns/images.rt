@@ -19,8 +19,10 @@ impl Pattern {
     // The states to which the table takes the members of the set that are states, under the label l.
     pub(super) fn image(&self, set: u64, l: u8) -> u64
         requires { l < self.now.head.labels.number }
-        ensures value { result ≡ image (next self.now.head.labels.number self.now.table l) self.now.head.states.number set }
-        ensures members { Image (next self.now.head.labels.number self.now.table l) self.now.head.states.number set result }
+        ensures value { let to = next self.now.head.labels.number self.now.table l in
+            result ≡ image to self.now.head.states.number set }
+        ensures members { let to = next self.now.head.labels.number self.now.table l in
+            Image to self.now.head.states.number set result }
     {
         let mut out = 0;
         let mut rest = below(set, self.head.states.number);

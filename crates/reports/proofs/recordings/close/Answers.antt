@@ -6,7 +6,7 @@ use Rattle.causality.specs.Boards.{Memory, Shows, left_among, left_answer, memor
 use Rattle.causality.proofs.Promises.{count_below_same}
 use Rattle.reports.proofs.recordings.close.Goals as goal
 
--- A board whose memory shows a state answers how many messages are on their way in it.
+-- A board whose memory shows some contents answers how many messages are on their way in them.
 left_answer-shown : {V : Type 0} (start : V) (n k : ℕ) (memory : Memory V) (room : Bool) → room ≡ true → (s : Contents V) → Shows start n k memory s → left_answer k room memory.posts ≡ Ok (left_among s.posts k)
 left_answer-shown start n k memory room there s shows =
     ap (λ (r : Bool). left_answer k r memory.posts) there ∙ ap (λ (t : ℕ). Ok t) (count_below_same (λ p. is_on_its_way (slice_index_or memory.posts p unsent)) (λ p. is_on_its_way (s.posts p)) k (λ p h. ap is_on_its_way (shows.posts p h)))
