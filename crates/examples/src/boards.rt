@@ -204,7 +204,15 @@ impl Memory {
         let clocks = &mut Grid::new(first_cells(&mut self.clocks, 8), 2);
         let flags = &mut Grid::new(first_cells(&mut self.flags, 8), 2);
         let values = &mut Grid::new(&mut nothing, 2);
-        Board::make(Bare::new(), 2, 2, clocks, flags, values, first_cells(&mut self.posts, 2))
+        Board::make(
+            Bare::new(),
+            2,
+            2,
+            clocks,
+            flags,
+            values,
+            first_cells(&mut self.posts, 2),
+        )
     }
 
     // Hands a call to that one.
@@ -235,7 +243,15 @@ fn sizes_that_are_refused(rt: HostRuntime) -> Result<(), Fail> {
         let flags = &mut Grid::new(&mut [], units);
         let values = &mut Grid::new(&mut [], units);
         let nothing = &mut Grid::new(&mut [], units);
-        let bare = Board::make(Bare::new(), units, messages, clocks, flags, nothing, &mut []);
+        let bare = Board::make(
+            Bare::new(),
+            units,
+            messages,
+            clocks,
+            flags,
+            nothing,
+            &mut [],
+        );
         let made = Board::make(
             Measured { measure: count },
             units,
@@ -500,7 +516,9 @@ fn two_flows(beacon: u8, waiting: u8, sound: u8) -> [Call; 10] {
 }
 
 // The own clock in an answer, and with it the predecessors and the value of a mark; or the number of the refusal.
-fn answer_parts<V: Copy>(answered: Result<Answer<V>, Refusal>) -> Result<(Clock, Option<(u64, V)>), u8> {
+fn answer_parts<V: Copy>(
+    answered: Result<Answer<V>, Refusal>,
+) -> Result<(Clock, Option<(u64, V)>), u8> {
     match answered {
         Ok(Answer::Sent(clock) | Answer::Received(clock)) => Ok((clock, None)),
         Ok(Answer::Marked(mark)) => Ok((mark.clock, Some((mark.predecessors, mark.value)))),

@@ -1,6 +1,8 @@
 //! Worked values of the flow count, the span, the pattern and a relabelling, and what their makers refuse.
 use super::reading::PATTERN;
-use measures::{FlowCount, Judge, Lengths, Measure, Pattern, Refusal, Relabelling, Span, value_along};
+use measures::{
+    FlowCount, Judge, Lengths, Measure, Pattern, Refusal, Relabelling, Span, value_along,
+};
 use std::test::Fail;
 use text::Cursor;
 

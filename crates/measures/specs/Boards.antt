@@ -116,7 +116,7 @@ pub record LawOfBoards {V : Type 0} (m : Meaning V) (admits : V → Type 0) : Ty
   pub order : (n k : ℕ) (cs ds : List Call) (xs ys : List (Result (Answer V) Refusal)) (a b : Memory V)
       → Played m n k cs xs a → Played m n k ds ys b
       → SameByUnit (accepted_calls (measured_payload m n) (measured_size m n k most_marks) cs)
-          (accepted_calls (measured_payload m n) (measured_size m n k most_marks) ds)
+      (accepted_calls (measured_payload m n) (measured_size m n k most_marks) ds)
       → Agree m n k cs ds xs ys a b
   -- under every judge, some of the value answered is yes exactly when one of the longest flows is good, all exactly when each is
   pub judged : (some all : V → Bool) (good : Word → Bool)

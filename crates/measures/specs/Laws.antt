@@ -43,7 +43,7 @@ pub record LawOfRuns {V : Type 0} (m : Meaning V) : Type 0 where
   pub marks_valued : MarksValued m
   pub order_free : (n k limit : ℕ) (cs ds : List Call)
       → SameByUnit (accepted_calls (measured_payload m n) (measured_size m n k limit) cs)
-          (accepted_calls (measured_payload m n) (measured_size m n k limit) ds)
+      (accepted_calls (measured_payload m n) (measured_size m n k limit) ds)
       → OrderFree (measured_payload m n) (measured_size m n k limit) cs ds
 
 -- What two answers of a judge say of the longest flows that end at position i of unit u: some is yes exactly when one of them is

@@ -32,7 +32,11 @@ fn assert_report(rt: &(impl Abort + AllocGlobal), input: &[u8], text: &str) -> R
 }
 
 // The report on the front and a recording in pieces is the header and a text in pieces.
-fn assert_report_on(rt: &(impl Abort + AllocGlobal), recording: &[&[u8]], text: &[&str]) -> Result<(), Fail> {
+fn assert_report_on(
+    rt: &(impl Abort + AllocGlobal),
+    recording: &[&[u8]],
+    text: &[&str],
+) -> Result<(), Fail> {
     let mut input = FRONT.to_vec(rt.alloc())?;
     for piece in recording {
         input.extend_from_slice(piece)?;
