@@ -1,5 +1,5 @@
 #!/usr/bin/env python3
-"""Brings the repository's own definitions and lemmas to today's spelling, after port.py: words in snake case, types in camel case.
+"""Brings the repository's own definitions and lemmas to today's spelling, after the toolchain's own port.py: words in snake case, types in camel case.
 
 usage: python3 tools/respell.py        at the top of the repository, once
 
