@@ -1,4 +1,6 @@
 -- What the operations on sets say of their members.
+-- Each operation is known bit by bit, and a member is a bit that is 1; two words with the same bits are equal. That a word above 0 has a member is
+-- found by halving it.
 use Rattle.std.proofs.Common.{◌≡◌, ℕ, zero, suc, ◌+◌, ◌*◌, ◌/◌, ◌%◌, ◌^◌, ◌<◌, ◌≤◌, Bool, true, false, cond, ◌||◌, eqb, ltb, leb, ◌⊎◌, ◌↔◌, Decides, sym, refl, ap, ◌∙◌, inl, inr, ⊎_elim, arith, pow_pos, pow_mono, shr-shr}
 use lib.Bits.{bit_and, bit_or}
 use native.Mathlib.Nat.{div-lt_iff_lt-mul}

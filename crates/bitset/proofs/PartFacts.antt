@@ -1,4 +1,6 @@
 -- The part of a set below a number, and a set split into its lowest member and the others.
+-- Where the lowest member is k, the word ends in a 1 and k zeros, so subtracting 1 changes these last bits alone, and what both words have in common
+-- is the set without k.
 use Rattle.std.proofs.Common.{◌≡◌, ℕ, suc, ◌+◌, ◌-◌, ◌*◌, ◌/◌, ◌%◌, ◌^◌, ◌<◌, ◌≤◌, Bool, true, ◌&&◌, ltb, sym, ap, ◌∙◌, inl, inr, arith, pow_pos, shr-shr}
 use Rattle.std.specs.Int.{w64, trailing_zeros}
 use Rattle.std.proofs.Math.Pow.{pow-lt}

@@ -9,7 +9,7 @@ use lib.Bits.{bit_or}
 use Rattle.bitset.specs.Sets.{has, those}
 use Rattle.bitset.proofs.MemberFacts.{cases_bit, below_members, those_members}
 
--- sets of numbers below n that are told by tests which agree below n
+-- sets of numbers below n that are made by tests which agree below n
 pub those_same : (f g : ℕ → Bool) (n : ℕ) → ((j : ℕ) → j < n → f j ≡ g j) → those f n ≡ those g n
 those_same f g zero e = refl
 those_same f g (suc n) e =

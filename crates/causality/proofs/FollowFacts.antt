@@ -7,7 +7,7 @@ use Rattle.history.specs.Runs.{Size}
 use Rattle.history.specs.declared.calls.Call.{Call}
 use Rattle.history.specs.Board.{Contents, refusal, contents_after, answer_to, next_contents, outcome}
 use Rattle.history.specs.declared.calls.Answer.{Answer}
-use Rattle.causality.specs.Boards.{Memory, Obeys, Setup, Shows, SameBeyond, Follows}
+use Rattle.causality.specs.Boards.{Memory, Obeys, Setup, Shows, SameBeyond, FollowsRules}
 
 -- memory that nothing wrote
 pub nothing_written : {V : Type 0} (start : V) (n k : ℕ) (a : Memory V) → SameBeyond start n k a a
@@ -31,9 +31,9 @@ module _ {V : Type 0} (M : Payload V) (z : Size) where
     pub taken_follows : (a : Answer V) → ((s : Contents V) → Shows M.start z.units z.messages old s → refusal M z s c.unit c.event ≡ None)
         → ((s : Contents V) → Shows M.start z.units z.messages old s → Shows M.start z.units z.messages new (contents_after M z s c.unit c.event))
         → ((s : Contents V) → Shows M.start z.units z.messages old s → a ≡ answer_to M z c.unit c.event (s.rows c.unit) ((contents_after M z s c.unit c.event).rows c.unit))
-        → SameBeyond M.start z.units z.messages old new → Follows M z c true old new (Ok a)
-    taken_follows a taken shown told beyond = record {
-      answer = λ s sh. ap Ok (told s sh) ∙ sym (taken_outcome s c (taken s sh));
+        → SameBeyond M.start z.units z.messages old new → FollowsRules M z c true old new (Ok a)
+    taken_follows a taken shown answered beyond = record {
+      answer = λ s sh. ap Ok (answered s sh) ∙ sym (taken_outcome s c (taken s sh));
       contents = λ s sh. subst (Shows M.start z.units z.messages new) (sym (taken_next s c (taken s sh))) (shown s sh);
       beyond = beyond;
       refused = λ e x. cc;
@@ -46,7 +46,7 @@ module _ {V : Type 0} (M : Payload V) (z : Size) where
     kept_beyond same = subst (SameBeyond M.start z.units z.messages old) (sym same) (nothing_written M.start z.units z.messages old)
 
     -- It is refused for e in all contents that the memory shows, and leaves the memory.
-    pub refused_follows : (e : Refusal) → ((s : Contents V) → Shows M.start z.units z.messages old s → refusal M z s c.unit c.event ≡ Some e) → new ≡ old → Follows M z c true old new (Err e)
+    pub refused_follows : (e : Refusal) → ((s : Contents V) → Shows M.start z.units z.messages old s → refusal M z s c.unit c.event ≡ Some e) → new ≡ old → FollowsRules M z c true old new (Err e)
     refused_follows e why same = record {
       answer = λ s sh. rw (why s sh) refl;
       contents = λ s sh. rw (why s sh) (kept same s sh);
@@ -55,7 +55,7 @@ module _ {V : Type 0} (M : Payload V) (z : Size) where
     }
 
     -- Its memory is too short, and left as it was.
-    pub short_follows : (e : Refusal) → e ≡ MemoryTooShort → new ≡ old → Follows M z c false old new (Err e)
+    pub short_follows : (e : Refusal) → e ≡ MemoryTooShort → new ≡ old → FollowsRules M z c false old new (Err e)
     short_follows e is same = record {
       answer = λ s sh. ap Err is;
       contents = λ s sh. kept same s sh;

@@ -1,17 +1,10 @@
 -- How many messages are on their way, counted over a list or over their numbers.
-use Rattle.std.proofs.Common.{◌≡◌, ℕ, zero, suc, ◌+◌, ◌*◌, false, ◌<◌, ◌≤◌, Bool, List, length, get_or, take, refl, ap, ap₂, ◌∙◌, sym, if◌then◌else◌, true, add-one, add-zero, arith}
+use Rattle.std.proofs.Common.{◌≡◌, ℕ, zero, suc, ◌+◌, ◌*◌, false, ◌≤◌, Bool, List, length, get_or, take, refl, ap, ◌∙◌, sym, if◌then◌else◌, true, add-one, add-zero, arith}
 use Rattle.std.specs.Prelude.{count_by}
 use Rattle.std.proofs.lemmas.List.Sums.{count_by_more_no, count_by_more_yes}
 use Rattle.history.specs.declared.messages.Post.{Post}
 use Rattle.history.specs.Messages.{unsent, is_on_its_way}
 use Rattle.causality.specs.Boards.{EachShows, left_among}
-use Rattle.history.specs.Counting.{count_below}
-
--- only what the test says of the numbers below n counts
-pub count_below_same : (f g : ℕ → Bool) (n : ℕ) → ((m : ℕ) → m < n → f m ≡ g m) → count_below f n ≡ count_below g n
-count_below_same f g zero e = refl
-count_below_same f g (suc n) e =
-    ap₂ (λ (t : ℕ) (b : Bool). t + (if b then 1 else 0)) (count_below_same f g n (λ m h. e m (omega arith))) (e n (omega arith))
 
 -- the count over the first k
 left_among_take : (posts : List Post) (k : ℕ) → k ≤ length posts → count_by is_on_its_way (take k posts) ≡ left_among (λ m. get_or posts m unsent) k

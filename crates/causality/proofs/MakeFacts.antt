@@ -5,7 +5,7 @@ use Rattle.std.proofs.lemmas.Bool.Decides.{nat_tests}
 use Rattle.std.proofs.lemmas.List.{places}
 use Rattle.grid.specs.declared.Grid.{Grid}
 use Rattle.grid.specs.Grids.{has_first_rows}
-use Rattle.grid.proofs.Promises.{row_fits}
+use Rattle.grid.proofs.Promises.{row_within}
 use Rattle.history.specs.Messages.{unsent}
 use Rattle.history.specs.declared.refusals.Refusal.{Refusal}
 use Rattle.history.specs.Rows.{Payload}
@@ -44,8 +44,8 @@ module _ {V X : Type 0} (M : Payload V) (part : Cell V → X) (other : X) (n k :
   -- they hold new rows
   pub holds_new : Filled ((n + k) * n) (part (record { clock = 0; flag = false; value = M.start })) other old new → Holds part other n k new (new_contents M)
   holds_new f = record {
-    rows = λ u j hu hj. f.here (u * n + j) (omega (arith, row_fits u (n + k) n (omega arith)));
-    message_rows = λ m j hm hj. f.here ((n + m) * n + j) (omega (arith, row_fits (n + m) (n + k) n (omega arith)));
+    rows = λ u j hu hj. f.here (u * n + j) (omega (arith, row_within u (n + k) n (omega arith)));
+    message_rows = λ m j hm hj. f.here ((n + m) * n + j) (omega (arith, row_within (n + m) (n + k) n (omega arith)));
   }
 
 pub filled_beyond : {X : Type 0} {count : ℕ} {x other : X} {old new : List X} → Filled count x other old new → SameFrom other count old new

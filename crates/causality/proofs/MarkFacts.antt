@@ -1,4 +1,6 @@
 -- A mark that is taken follows the rules: its unit's row is rewritten, and no other.
+-- What the code did is given as three rows that were written, of clocks, flags and values. Cell by cell, the unit's own or another, each is what the
+-- rules make of the row that the memory showed, so the memory shows the contents after the mark; the answer is read off that row.
 use Rattle.std.proofs.Common.{◌≡◌, ℕ, ◌+◌, ◌*◌, ◌<◌, ◌≤◌, Bool, true, false, cond, eqb, length, None, Ok, get_or, take, drop, min, sym, refl, ap, ◌∙◌, inl, inr, arith, length-drop, length-take, rules}
 use Rattle.std.proofs.lemmas.Bool.{cases_eq, eq-eqb, ne_eqb}
 use Rattle.std.proofs.lemmas.Bool.Decides.{nat_tests}
@@ -14,7 +16,7 @@ use Rattle.history.specs.declared.cells.Cell.{Cell}
 use Rattle.history.specs.Board.{Contents, mark_answer, refusal, contents_after}
 use Rattle.history.specs.Limits.{most_marks, most_units}
 use Rattle.history.specs.Runs.{call}
-use Rattle.causality.specs.Boards.{Memory, Shows, Follows, has_room}
+use Rattle.causality.specs.Boards.{Memory, Shows, FollowsRules, has_room}
 use Rattle.causality.specs.Calls.{Room, Ready}
 use Rattle.causality.specs.Payloads.{Reads, size_on, payload_on, PayloadRules}
 use Rattle.causality.proofs.RoomFacts.{room_row}
@@ -79,7 +81,7 @@ module _ {V : Type 0} (rules : PayloadRules V) (n k u l : ℕ) (labelled : rules
     own_value : value ≡ ((contents_after (payload_on rules n) (size_on rules n k) s u (Mark l)).rows u u).value
     own_value = sym (wv.here u r.unit ∙ rw (eq-eqb u u refl) refl) ∙ shown.values.rows u u r.unit r.unit
 
-  pub noted : Follows (payload_on rules n) (size_on rules n k) (call u (Mark l)) (has_room n k old) old new (Ok (mark_answer clock units value))
+  pub noted : FollowsRules (payload_on rules n) (size_on rules n k) (call u (Mark l)) (has_room n k old) old new (Ok (mark_answer clock units value))
   noted =
       rw r.room
       (taken_follows (payload_on rules n) (size_on rules n k) (call u (Mark l)) old new (mark_answer clock units value) not_refused shown

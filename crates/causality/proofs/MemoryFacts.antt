@@ -2,7 +2,7 @@
 use Rattle.std.proofs.Common.{◌≡◌, ℕ, ◌+◌, ◌*◌, ◌<◌, ◌≤◌, List, length, get_or, set, sym, ap, ◌∙◌, refl, inl, inr, arith}
 use Rattle.std.proofs.lemmas.Grind.{common_steps, get_or-set_at}
 use Rattle.std.proofs.lemmas.List.{get_or-set_other}
-use Rattle.grid.proofs.Promises.{row_fits, other_row}
+use Rattle.grid.proofs.Promises.{row_within, other_row}
 use Rattle.grid.specs.Rows.{RowIs}
 use Rattle.history.specs.declared.messages.Post.{Post}
 use Rattle.history.specs.Messages.{unsent}
@@ -14,7 +14,7 @@ use Rattle.causality.specs.Boards.{Holds, SameFrom}
 
 -- what lies beyond the rows stays
 pub same_from : {X : Type 0} (n k t : ℕ) (d : X) {g : ℕ → X} {old new : List X} → RowIs n t d g old new → t < n + k → SameFrom d ((n + k) * n) old new
-same_from n k t d w h = record { same_length = w.same_length; rest = λ i l. w.outside i (inr (omega (arith, row_fits t (n + k) n h))) }
+same_from n k t d w h = record { same_length = w.same_length; rest = λ i l. w.outside i (inr (omega (arith, row_within t (n + k) n h))) }
 
 pub same_all : {X : Type 0} (d : X) (place : ℕ) (xs : List X) → SameFrom d place xs xs
 same_all d place xs = record { same_length = refl; rest = λ i l. refl }

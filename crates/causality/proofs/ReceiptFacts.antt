@@ -6,14 +6,14 @@ use Rattle.grid.specs.Rows.{RowIs}
 use Rattle.grid.proofs.Promises.{row_same}
 use Rattle.history.specs.declared.messages.Handling.TheVariants.{Receiving}
 use Rattle.history.specs.declared.messages.Post.{Post}
-use Rattle.history.specs.Messages.{unsent, handled_post}
+use Rattle.history.specs.Messages.{unsent, post_after}
 use Rattle.history.specs.declared.calls.Event.TheVariants.{Receive}
 use Rattle.history.specs.declared.calls.Answer.TheVariants.{Received}
 use Rattle.history.specs.Rows.{merged_cell, merge_row}
 use Rattle.history.specs.declared.cells.Cell.{Cell}
 use Rattle.history.specs.Board.{Contents, refusal, contents_after}
 use Rattle.history.specs.Runs.{call}
-use Rattle.causality.specs.Boards.{Memory, Shows, Follows, has_room}
+use Rattle.causality.specs.Boards.{Memory, Shows, FollowsRules, has_room}
 use Rattle.causality.specs.Calls.{Ready}
 use Rattle.causality.specs.Payloads.{size_on, payload_on, PayloadRules}
 use Rattle.causality.specs.Merging.{merged_row}
@@ -31,7 +31,7 @@ module _ {V : Type 0} (rules : PayloadRules V) (n k u m : ℕ) (old : Memory V) 
   abbrev pub heard : ℕ → Cell V
   heard = merged_row rules.start old.clocks.cells.now old.flags.cells.now old.values.cells.now (rows n u m)
 
-  module _ (post : Post) (own : ℕ) (was : handled_post (get_or old.posts m unsent) Receiving ≡ Ok post)
+  module _ (post : Post) (own : ℕ) (was : post_after (get_or old.posts m unsent) Receiving ≡ Ok post)
       (wc : RowIs n u 0 (λ j. (heard j).clock) old.clocks.cells.now new.clocks.cells.now)
       (wf : RowIs n u false (λ j. (heard j).flag) old.flags.cells.now new.flags.cells.now)
       (wv : RowIs n u rules.start (λ j. (heard j).value) old.values.cells.now new.values.cells.now)
@@ -57,7 +57,7 @@ module _ {V : Type 0} (rules : PayloadRules V) (n k u m : ℕ) (old : Memory V) 
       own_is : own ≡ ((contents_after (payload_on rules n) (size_on rules n k) s u (Receive m)).rows u u).clock
       own_is = is ∙ shown.clocks.rows u u r.unit r.unit
 
-    pub received : Follows (payload_on rules n) (size_on rules n k) (call u (Receive m)) (has_room n k old) old new (Ok (Received own))
+    pub received : FollowsRules (payload_on rules n) (size_on rules n k) (call u (Receive m)) (has_room n k old) old new (Ok (Received own))
     received =
         rw r.room
         (taken_follows (payload_on rules n) (size_on rules n k) (call u (Receive m)) old new (Received own) not_refused shown (λ s sh. ap Received (own_is s sh))

@@ -3,7 +3,7 @@ use Rattle.std.proofs.Common.{◌≡◌, ℕ, ◌+◌, ◌*◌, ◌<◌, ◌≤�
 use Rattle.std.proofs.lemmas.Bool.Decides.{nat_tests}
 use Rattle.grid.specs.declared.Grid.{Grid}
 use Rattle.grid.specs.Grids.{has_row}
-use Rattle.grid.proofs.Promises.{row_fits}
+use Rattle.grid.proofs.Promises.{row_within}
 use Rattle.causality.specs.Boards.{Memory, has_all_rows, has_room}
 use Rattle.causality.specs.Calls.{Room, Ready}
 
@@ -12,7 +12,7 @@ room_of n k g e = record { width = grind (arith, nat_tests); cells = grind (arit
 
 -- every row of the board lies within the cells
 pub room_row : {X : Type 0} {n k : ℕ} {g : Grid X} → Room n k g → (t : ℕ) → t < n + k → t * n + n ≤ length g.cells.now
-room_row {n = n} {k = k} r t h = omega (arith, r.cells, row_fits t (n + k) n h)
+room_row {n = n} {k = k} r t h = omega (arith, r.cells, row_within t (n + k) n h)
 
 -- each of its rows is there
 pub room_there : {X : Type 0} {n k : ℕ} {g : Grid X} → Room n k g → (t : ℕ) → t < n + k → has_row g t ≡ true

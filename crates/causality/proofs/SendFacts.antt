@@ -5,12 +5,12 @@ use Rattle.grid.specs.Rows.{RowIs}
 use Rattle.grid.proofs.Promises.{other_row, row_same}
 use Rattle.history.specs.declared.messages.Handling.TheVariants.{Sending}
 use Rattle.history.specs.declared.messages.Post.{Post}
-use Rattle.history.specs.Messages.{unsent, handled_post}
+use Rattle.history.specs.Messages.{unsent, post_after}
 use Rattle.history.specs.declared.calls.Event.TheVariants.{Send}
 use Rattle.history.specs.declared.calls.Answer.TheVariants.{Sent}
 use Rattle.history.specs.Board.{Contents, refusal, contents_after}
 use Rattle.history.specs.Runs.{call}
-use Rattle.causality.specs.Boards.{Memory, Shows, Follows, has_room}
+use Rattle.causality.specs.Boards.{Memory, Shows, FollowsRules, has_room}
 use Rattle.causality.specs.Calls.{Ready}
 use Rattle.causality.specs.Payloads.{size_on, payload_on, PayloadRules}
 use Rattle.causality.proofs.FollowFacts.{taken_follows}
@@ -18,7 +18,7 @@ use Rattle.causality.proofs.MemoryFacts.{same_from, holds_message, post_set, pos
 
 -- A send to row n + m, by a board that has asked its questions.
 module _ {V : Type 0} (rules : PayloadRules V) (n k u m : ℕ) (old : Memory V) (new : Memory V) (r : Ready n k old u) (hm : m < k) (post : Post) (own : ℕ)
-    (was : handled_post (get_or old.posts m unsent) Sending ≡ Ok post)
+    (was : post_after (get_or old.posts m unsent) Sending ≡ Ok post)
     (wc : RowIs n (n + m) 0 (λ j. get_or old.clocks.cells.now (u * n + j) 0) old.clocks.cells.now new.clocks.cells.now)
     (wf : RowIs n (n + m) false (λ j. get_or old.flags.cells.now (u * n + j) false) old.flags.cells.now new.flags.cells.now)
     (wv : RowIs n (n + m) rules.start (λ j. get_or old.values.cells.now (u * n + j) rules.start) old.values.cells.now new.values.cells.now)
@@ -38,7 +38,7 @@ module _ {V : Type 0} (rules : PayloadRules V) (n k u m : ℕ) (old : Memory V) 
     own_is : own ≡ (s.rows u u).clock
     own_is = is ∙ other_row wc u u (λ e. omega (arith, r.unit)) r.unit ∙ sh.clocks.rows u u r.unit r.unit
 
-  pub sent : Follows (payload_on rules n) (size_on rules n k) (call u (Send m)) (has_room n k old) old new (Ok (Sent own))
+  pub sent : FollowsRules (payload_on rules n) (size_on rules n k) (call u (Send m)) (has_room n k old) old new (Ok (Sent own))
   sent =
       rw r.room
       (taken_follows (payload_on rules n) (size_on rules n k) (call u (Send m)) old new (Sent own) not_refused shown (λ s sh. ap Sent (own_is s sh))

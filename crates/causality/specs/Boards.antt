@@ -1,5 +1,5 @@
 -- Boards in memory that the caller lends: what a memory shows, and what each call on a board owes.
-use Rattle.std.specs.Prelude.{◌≡◌, ℕ, ◌+◌, ◌*◌, ◌<◌, ◌≤◌, Bool, false, ◌&&◌, List, length, if◌then◌else◌, Some, None, Ok, Err, Option, Result, MatchResult, ◌==◌, nat_le, nat_lt, slice_index_or}
+use Rattle.std.specs.Prelude.{◌≡◌, ℕ, ◌+◌, ◌*◌, ◌<◌, ◌≤◌, Bool, false, ◌&&◌, List, length, if◌then◌else◌, Some, None, Ok, Err, Option, Result, ◌==◌, nat_le, nat_lt, slice_index_or}
 use Rattle.grid.specs.declared.Grid.{Grid}
 use Rattle.grid.specs.Grids.{SameLoan}
 use Rattle.history.specs.declared.calls.Answer.{Answer}
@@ -67,9 +67,11 @@ pub record SameLoans {V : Type 0} (old new : Memory V) : Type 0 where
 
 -- One grid of a board of n units and k messages holds one part of each cell: cell j of unit u's row at u * n + j, and of message m's at
 -- (n + m) * n + j.
-pub record Holds {V X : Type 0} (part : Cell V → X) (other : X) (n k : ℕ) (xs : List X) (s : Contents V) : Type 0 where
+pub record Holds {V X : Type 0} (part : Cell V → X) (other : X) (n k : ℕ) (xs : List X)
+    (s : Contents V) : Type 0 where
   pub rows : (u j : ℕ) → u < n → j < n → slice_index_or xs (u * n + j) other ≡ part (s.rows u j)
-  pub message_rows : (m j : ℕ) → m < k → j < n → slice_index_or xs ((n + m) * n + j) other ≡ part (s.message_rows m j)
+  pub message_rows : (m j : ℕ) → m < k → j < n
+      → slice_index_or xs ((n + m) * n + j) other ≡ part (s.message_rows m j)
 
 -- The memory shows these contents of a board: each of the n + k rows, and what became of each of the k messages. Of memory beyond them it says nothing.
 pub record Shows {V : Type 0} (start : V) (n k : ℕ) (memory : Memory V) (s : Contents V) : Type 0 where
@@ -96,7 +98,7 @@ pub record SameBeyond {V : Type 0} (start : V) (n k : ℕ) (old new : Memory V) 
 
 -- What a send, a receipt or a mark owes, whatever contents its memory shows: the answer or the refusal of the rules, and memory that shows the
 -- contents after it. `room` says whether the memory is long enough, the first question of each call.
-pub record Follows {V : Type 0} (M : Payload V) (z : Size) (c : Call) (room : Bool) (old new : Memory V)
+pub record FollowsRules {V : Type 0} (M : Payload V) (z : Size) (c : Call) (room : Bool) (old new : Memory V)
     (r : Result (Answer V) Refusal) : Type 0 where
   pub answer : (s : Contents V) → Shows M.start z.units z.messages old s
       → r ≡ (if room then outcome M z s c else Err MemoryTooShort)
@@ -112,17 +114,20 @@ pub record Makes {V : Type 0} (M : Payload V) (n k : ℕ) (refusal : Option Refu
   pub refused : (e : Refusal) → refusal ≡ Some e → new ≡ old
 
 -- What a send, a receipt or a mark owes on a board of that setup: it follows the rules, and lends back what it was lent.
-pub record Obeys {V : Type 0} (b : Setup V) (c : Call) (old new : Memory V) (r : Result (Answer V) Refusal) : Type 0 where
-  pub follows : Follows (payload_on b.rules b.units) (size_on b.rules b.units b.messages) c
+pub record Obeys {V : Type 0} (b : Setup V) (c : Call) (old new : Memory V)
+    (r : Result (Answer V) Refusal) : Type 0 where
+  pub follows : FollowsRules (payload_on b.rules b.units) (size_on b.rules b.units b.messages) c
       (has_room b.units b.messages old) old new r
   pub loans : SameLoans old new
 
 -- The questions that a making asks, in their order; the first no gives the refusal.
 abbrev pub make_refusal : ℕ → ℕ → Bool → Option Refusal
 make_refusal n k room =
-    ask (nat_le 1 n && nat_le n most_units) UnitCount (ask (nat_le k most_messages) MessageCount (ask room MemoryTooShort None))
+    ask (nat_le 1 n && nat_le n most_units) UnitCount
+    (ask (nat_le k most_messages) MessageCount
+    (ask room MemoryTooShort None))
 
--- the state of message m, or why it is not told
+-- the state of message m, or the refusal
 abbrev pub state_answer : ℕ → Bool → List Post → ℕ → Result Post Refusal
 state_answer k room posts m =
     if room then (if nat_lt m k then Ok (slice_index_or posts m unsent) else Err NoSuchMessage)
@@ -132,24 +137,6 @@ state_answer k room posts m =
 abbrev pub left_among : (ℕ → Post) → ℕ → ℕ
 left_among posts k = count_below (λ m. is_on_its_way (posts m)) k
 
--- their number, or why it is not told
+-- their number, or the refusal
 abbrev pub left_answer : ℕ → Bool → List Post → Result ℕ Refusal
 left_answer k room posts = if room then Ok (left_among (λ m. slice_index_or posts m unsent) k) else Err MemoryTooShort
-
--- What the making of a board of that setup owes to the memory.
-pub record Begins {V : Type 0} (b : Setup V) (old new : Memory V) : Type 0 where
-  pub makes : Makes (payload_on b.rules b.units) b.units b.messages
-      (make_refusal b.units b.messages (has_room b.units b.messages old)) old new
-  pub loans : SameLoans old new
-
-module _ {P V : Type 0} {G : Ghosts P V} where
-  -- The board has this payload, n units and k messages.
-  pub record IsBoard (payload : P) (n k : ℕ) (b : Board P V G) : Type 0 where
-    pub payload_is : b.payload ≡ payload
-    pub units_are : b.units ≡ n
-    pub messages_are : b.messages ≡ k
-
-  -- What the making of a board answers: that board, or the refusal by the first question whose answer is no.
-  abbrev pub MakeAnswer : P → ℕ → ℕ → Bool → Result (Board P V G) Refusal → Type 0
-  MakeAnswer payload n k room r =
-      MatchResult r (λ b. (make_refusal n k room ≡ None) × IsBoard payload n k b) (λ e. make_refusal n k room ≡ Some e)

@@ -1,5 +1,5 @@
--- What the questions of a call tell, and what is refused.
-use Rattle.std.specs.Prelude.{◌≡◌, ◌<◌, ◌≤◌, ℕ, ◌+◌, ◌*◌, true, length, Ok, Err, Result, slice_index}
+-- What the questions of a call tell, what is refused, and what a making answers and owes.
+use Rattle.std.specs.Prelude.{◌≡◌, ◌<◌, ◌≤◌, ℕ, ◌+◌, ◌*◌, Bool, true, length, Some, None, Ok, Err, Result, MatchResult, slice_index}
 use Rattle.grid.specs.declared.Grid.{Grid}
 use Rattle.history.specs.declared.calls.Call.{Call}
 use Rattle.history.specs.declared.calls.Event.{Event}
@@ -8,7 +8,10 @@ use Rattle.history.specs.declared.messages.Handling.{Handling}
 use Rattle.history.specs.declared.messages.Handling.TheVariants.{Sending, Receiving}
 use Rattle.history.specs.declared.refusals.Refusal.{Refusal}
 use Rattle.history.specs.Limits.{most_marks}
-use Rattle.causality.specs.Boards.{Setup, Memory, Obeys, has_room}
+use Rattle.causality.specs.declared.boards.Board.{Board}
+use Rattle.causality.specs.declared.payloads.Payload.{Ghosts}
+use Rattle.causality.specs.Boards.{Setup, Memory, Makes, Obeys, SameLoans, has_room, make_refusal}
+use Rattle.causality.specs.Payloads.{payload_on}
 
 -- a grid is as wide as a board of n units and k messages, and has all its rows
 pub record Room {X : Type 0} (n k : ℕ) (g : Grid X) : Type 0 where
@@ -48,3 +51,23 @@ handling_event Receiving m = Receive m
 abbrev pub result_as : {X Y : Type 0} → (X → Y) → Result X Refusal → Result Y Refusal
 result_as case (Ok x) = Ok (case x)
 result_as case (Err e) = Err e
+
+-- What the making of a board of that setup owes to the memory.
+pub record Begins {V : Type 0} (b : Setup V) (old new : Memory V) : Type 0 where
+  pub makes : Makes (payload_on b.rules b.units) b.units b.messages
+      (make_refusal b.units b.messages (has_room b.units b.messages old)) old new
+  pub loans : SameLoans old new
+
+module _ {P V : Type 0} {G : Ghosts P V} where
+  -- The board has this payload, n units and k messages.
+  pub record IsBoard (payload : P) (n k : ℕ) (b : Board P V G) : Type 0 where
+    pub payload_is : b.payload ≡ payload
+    pub units_are : b.units ≡ n
+    pub messages_are : b.messages ≡ k
+
+  -- What the making of a board answers: that board, or the refusal by the first question whose answer is no.
+  abbrev pub MakeAnswer : P → ℕ → ℕ → Bool → Result (Board P V G) Refusal → Type 0
+  MakeAnswer payload n k room r =
+      MatchResult r
+      (λ b. (make_refusal n k room ≡ None) × IsBoard payload n k b)
+      (λ e. make_refusal n k room ≡ Some e)

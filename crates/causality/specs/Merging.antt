@@ -7,7 +7,11 @@ use Rattle.history.specs.declared.cells.Cell.{Cell}
 -- the cell at a place; past the end of the values it carries `start`
 abbrev pub cell_at : {V : Type 0} → V → List ℕ → List Bool → List V → ℕ → Cell V
 cell_at start clocks flags values place =
-    record { clock = slice_index clocks place; flag = slice_index_or flags place false; value = slice_index_or values place start }
+    record {
+      clock = slice_index clocks place;
+      flag = slice_index_or flags place false;
+      value = slice_index_or values place start;
+    }
 
 -- row r of n cells
 abbrev pub cells : {V : Type 0} → V → List ℕ → List Bool → List V → ℕ → ℕ → ℕ → Cell V

@@ -31,10 +31,10 @@ impl<P: Payload> Board<P> {
     ghost use Rattle.history.specs.declared.calls.Call.{Call};
     ghost use Rattle.history.specs.declared.calls.Event.TheVariants.{Mark, Receive, Send};
     ghost use Rattle.history.specs.declared.cells.Cell.{Cell};
-    ghost use Rattle.history.specs.Messages.{handled_post, unsent};
+    ghost use Rattle.history.specs.Messages.{post_after, unsent};
     ghost use Rattle.history.specs.Runs.{call};
-    ghost use Rattle.causality.specs.Boards.{Begins, EachShows, MakeAnswer, Obeys, has_all_rows, has_room, left_answer, memory, payload_of, setup, setup_of, state_answer};
-    ghost use Rattle.causality.specs.Calls.{IsRefused, MayMark, Ready, handling_event, own_clock_in, result_as};
+    ghost use Rattle.causality.specs.Boards.{EachShows, Obeys, has_all_rows, has_room, left_answer, memory, payload_of, setup, setup_of, state_answer};
+    ghost use Rattle.causality.specs.Calls.{Begins, IsRefused, MakeAnswer, MayMark, Ready, handling_event, own_clock_in, result_as};
     ghost use Rattle.causality.specs.Payloads.{Reads};
 
     /// A board of that size, whose memory is still to be brought. Refuses units outside 1 to 16 (1) and more than 255 messages (2).
@@ -105,7 +105,8 @@ impl<P: Payload> Board<P> {
         posts: &[Post],
     ) -> bool
         ensures room { let b = setup_of self.now in
-            result ≡ has_room b.units b.messages (memory clocks.now flags.now values.now posts.now) }
+            let a = memory clocks.now flags.now values.now posts.now in
+            result ≡ has_room b.units b.messages a }
         ensures shows { let b = setup_of self.now in
             EachShows b.rules.start b.units b.messages }
     {
@@ -160,14 +161,14 @@ impl<P: Payload> Board<P> {
             let a = memory clocks.now flags.now values.now posts.now in
             MatchResult result
             (λ post. Ready b.units b.messages a unit × (message < b.messages)
-            × (handled_post (slice_index_or posts.now message unsent) handling ≡ Ok post))
+            × (post_after (slice_index_or posts.now message unsent) handling ≡ Ok post))
             (λ e. IsRefused b a (call unit (handling_event handling message)) e) }
     {
         self.ask_unit(clocks, flags, values, posts, unit)?;
         if message >= self.messages {
             return Err(Refusal::NoSuchMessage);
         }
-        at_or(posts, message, Post::UNSENT).handled(handling)
+        at_or(posts, message, Post::UNSENT).after(handling)
     }
 
     /// The questions of a mark, in their order: is the memory long enough (3), is the unit there (4), may it use the label (6), and is its own
@@ -334,7 +335,8 @@ impl<P: Payload> Board<P> {
         message: usize,
     ) -> Result<Post, Refusal>
         ensures { let b = setup_of self.now in
-            let room = has_room b.units b.messages (memory clocks.now flags.now values.now posts.now) in
+            let a = memory clocks.now flags.now values.now posts.now in
+            let room = has_room b.units b.messages a in
             result ≡ state_answer b.messages room posts.now message }
     {
         if !self.has_room(clocks, flags, values, posts) {
@@ -357,7 +359,8 @@ impl<P: Payload> Board<P> {
         posts: &[Post],
     ) -> Result<usize, Refusal>
         ensures { let b = setup_of self.now in
-            let room = has_room b.units b.messages (memory clocks.now flags.now values.now posts.now) in
+            let a = memory clocks.now flags.now values.now posts.now in
+            let room = has_room b.units b.messages a in
             result ≡ left_answer b.messages room posts.now }
     {
         if !self.has_room(clocks, flags, values, posts) {

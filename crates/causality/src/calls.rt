@@ -7,7 +7,8 @@ use grid::Grid;
 use history::{Answer, Call, Clock, Event, Post, Refusal};
 
 impl<P: Payload> Board<P> {
-    /// Hands one call to the board: a send, a receipt or a mark, with its answer and its refusals.
+    /// Hands one call to the board: a send, a receipt or a mark, with the answer and the refusals of `send` (3, 4, 5, 7), `receive` (3, 4, 5, 8, 9) or
+    /// `mark` (3, 4, 6, 10); a refusal changes nothing.
     pub fn hand(
         &self,
         clocks: &mut Grid<'_, Clock>,

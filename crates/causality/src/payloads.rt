@@ -5,6 +5,7 @@ ghost use Rattle.causality.specs.Payloads.{Reads, bare, PayloadRules};
 
 /// What cells carry along the flows of a run: a start, what a mark makes of the values of its predecessors, and which labels a unit may use.
 pub trait Payload {
+    /// What one cell carries.
     type Value: Copy;
 
     // the three things that it offers, on boards of any number of units

@@ -19,8 +19,12 @@ pub struct Stamp<'a> {
 /// or not from 1 to 16 long (12), and then a unit at or above that length (4). On the stamps of two marks of a run the answer is their causal
 /// order (`order`).
 pub fn compare(p: Stamp<'_>, q: Stamp<'_>) -> Result<Precedence, Refusal>
-    ensures answer { result ≡ compare_answer p.entry.clocks.now q.entry.clocks.now p.entry.unit q.entry.unit }
-    ensures order { OrdersMarks p.entry.clocks.now q.entry.clocks.now p.entry.unit q.entry.unit result }
+    ensures answer { let first = p.entry.clocks.now in
+        let second = q.entry.clocks.now in
+        result ≡ compare_answer first second p.entry.unit q.entry.unit }
+    ensures order { let first = p.entry.clocks.now in
+        let second = q.entry.clocks.now in
+        OrdersMarks first second p.entry.unit q.entry.unit result }
 {
     if !are_stamps(p.clocks.len(), q.clocks.len()) {
         return Err(Refusal::StampLength);

@@ -2,6 +2,7 @@
 use Rattle.std.proofs.Common.{◌≡◌, ℕ, ◌+◌, ◌<◌, ◌≤◌, [], ◌∷◌, refl, arith}
 use Rattle.std.proofs.Math.Path.{fun_ext}
 use Rattle.std.proofs.lemmas.Bool.{lt-ltb, le-ltb, cond-false}
+use Rattle.measures.specs.Limits.{most_labels}
 use Rattle.measures.specs.Words.{Letter, Word}
 use Rattle.measures.specs.Measures.{Lawful}
 use Rattle.measures.specs.Laws.{LawOfRuns}
@@ -12,7 +13,7 @@ put_first_joined : (l : Letter) (f g : Word → ℕ) (w : Word) → put_first l 
 put_first_joined l f g [] = refl
 put_first_joined l f g (x ∷ w) = grind arith
 
-words_lawful : (n : ℕ) → (0 < n) × (n ≤ 64) → Lawful (words n) (λ f. Unit {0})
+words_lawful : (n : ℕ) → (0 < n) × (n ≤ most_labels) → Lawful (words n) (λ f. Unit {0})
 words_lawful n in_range = record {
   label_range = in_range;
   start_admitted = tt;
@@ -24,5 +25,5 @@ words_lawful n in_range = record {
   distributes = λ a b l _ _ h. rw (lt-ltb l n h) (fun_ext (put_first_joined l a b));
 }
 
-pub law_of_words : (n : ℕ) → (0 < n) × (n ≤ 64) → LawOfRuns (words n)
+pub law_of_words : (n : ℕ) → (0 < n) × (n ≤ most_labels) → LawOfRuns (words n)
 law_of_words n in_range = law_of_runs (words n) (λ f. Unit {0}) (words_lawful n in_range)

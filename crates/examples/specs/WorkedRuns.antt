@@ -65,7 +65,7 @@ words n = record {
   join = λ f g w. f w + g w;
 }
 
--- what the event at position i of unit u was told under a measure
+-- what the event at position i of unit u was answered under a measure
 abbrev pub reply_to : {V : Type 0} → Meaning V → WorkedRun → ℕ → ℕ → Option (Reply V)
 reply_to m r u i = at (run (measured_payload m r.units) (measured_size m r.units r.messages most_marks) r.calls).replies u i
 
@@ -84,13 +84,13 @@ pub data Finding : Type 0 where
   -- one more call, and why it is refused
   refusal_is : (unit : ℕ) → Event → Refusal → Finding
 
--- the own number and the predecessors that a mark was told
+-- the own number and the predecessors that a mark was answered
 abbrev pub mark_in : {V : Type 0} → Answer V → Option (ℕ × ℕ)
 mark_in (Sent c) = None
 mark_in (Received c) = None
 mark_in (Marked m) = Some (m.clock, m.predecessors)
 
--- the value that a mark was told
+-- the value that a mark was answered
 abbrev pub value_in : {V : Type 0} → Answer V → Option V
 value_in (Sent c) = None
 value_in (Received c) = None
@@ -101,7 +101,7 @@ abbrev pub having : Word → (Word → ℕ) → ℕ
 having w f = f (reverse w)
 
 module _ (r : WorkedRun) where
-  -- what the event at position i of unit u was told under the flow count
+  -- what the event at position i of unit u was answered under the flow count
   abbrev count_reply : ℕ → ℕ → Option (Reply ℕ)
   count_reply u i = reply_to (flow_count r.labels) r u i
 

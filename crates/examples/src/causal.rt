@@ -9,7 +9,7 @@ use std::test::Fail;
 
 // The number of the state that a message moves to, or the refusal's.
 fn handled(post: Post, handling: Handling) -> Result<u8, u8> {
-    post.handled(handling).map(u8::from).map_err(u8::from)
+    post.after(handling).map(u8::from).map_err(u8::from)
 }
 
 #[test]

@@ -11,14 +11,14 @@ use Rattle.grid.specs.Grids.{LieWithin, with_cells}
 use Rattle.grid.specs.Rows.{row, cells_by}
 
 -- a row below h rows lies within them
-pub row_fits : (r h n : ℕ) → r < h → r * n + n ≤ h * n
-row_fits r h n l = omega (arith, mul-le-mul_right n l, suc-mul r n)
+pub row_within : (r h n : ℕ) → r < h → r * n + n ≤ h * n
+row_within r h n l = omega (arith, mul-le-mul_right n l, suc-mul r n)
 
 -- cell j of row a lies before row b, or past the first j cells of it
 apart : (a b n j : ℕ) → j < n → (a * n + j < b * n) ⊎ (b * n + j ≤ a * n + j)
 apart a b n j h =
     elim (cases_lt a b) [
-      | inl l ↦ inl (omega (arith, row_fits a b n l))
+      | inl l ↦ inl (omega (arith, row_within a b n l))
       | inr g ↦ inr (omega (arith, mul-le-mul_right n g))
     ]
 

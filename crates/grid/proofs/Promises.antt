@@ -1,7 +1,7 @@
 -- What other crates may cite of grids. A line's file has the theorem and its proof.
 
 -- A row below h rows lies within them.
-pub use Rattle.grid.proofs.CellFacts.{row_fits}
+pub use Rattle.grid.proofs.CellFacts.{row_within}
 -- A write to cell j of the part that begins at a is one to cell a + j of the whole.
 pub use Rattle.grid.proofs.CellFacts.{put_at}
 -- Once the next column is written, one cell more of the row holds what it should.

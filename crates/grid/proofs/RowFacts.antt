@@ -6,7 +6,7 @@ use Rattle.std.proofs.lemmas.List.Edits.{length-paste}
 use Rattle.std.proofs.lemmas.List.FromFn.{length-map-range_with_len, get_or-map-range_with_len}
 use Rattle.std.proofs.lemmas.Bool.{cases_lt, cases_eq, eq-eqb, ne_eqb}
 use Rattle.grid.specs.Rows.{row, with_row, cells_by, RowIs}
-use Rattle.grid.proofs.CellFacts.{row_fits, untouched}
+use Rattle.grid.proofs.CellFacts.{row_within, untouched}
 
 -- what stands where, once a row is written
 module _ {X : Type 0} (xs ys : List X) (n r : ℕ) where
@@ -23,8 +23,8 @@ module _ {X : Type 0} (xs ys : List X) (n r : ℕ) where
 pub other_row : {X : Type 0} {n t : ℕ} {d : X} {g : ℕ → X} {old new : List X} → RowIs n t d g old new → (r j : ℕ) → (r ≡ t → ⊥) → j < n → get_or new (r * n + j) d ≡ get_or old (r * n + j) d
 other_row {n = n} {t = t} w r j ne h =
     elim (cases_lt r t) [
-      | inl l ↦ w.outside (r * n + j) (inl (omega (arith, row_fits r t n l)))
-      | inr g ↦ w.outside (r * n + j) (inr (omega (arith, row_fits t r n (omega arith))))
+      | inl l ↦ w.outside (r * n + j) (inl (omega (arith, row_within r t n l)))
+      | inr g ↦ w.outside (r * n + j) (inr (omega (arith, row_within t r n (omega arith))))
     ]
 
 -- a row is the same by cells that are equal one by one

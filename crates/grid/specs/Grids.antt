@@ -1,4 +1,4 @@
--- Grids: the rows that they have, how their calls refuse, and what no call changes.
+-- Grids: the rows that they have, what their calls answer and write, and what no call changes.
 use Rattle.std.specs.Prelude.{◌≡◌, ℕ, ◌+◌, ◌*◌, ◌≤◌, Bool, ◌&&◌, if◌then◌else◌, List, ◌++◌, length, replicate, drop, Option, None, nat_lt, nat_le, slice_get}
 use Rattle.std.proofs.Math.Seq.{paste}
 use Rattle.grid.specs.declared.Grid.{Grid}

@@ -9,7 +9,9 @@ ghost use Rattle.grid.specs.Grids.{has_row, row_in, cell_answer, with_first_rows
 /// Rows of `width` cells each, in lent cells.
 #[derive(Drop)]
 pub struct Grid<'a, T> {
+    /// All lent cells, also those after the last whole row.
     pub cells: &'a mut [T],
+    /// The number of a row's cells.
     pub width: usize,
 }
 
@@ -17,8 +19,11 @@ pub struct Grid<'a, T> {
 /// That both lie within a memory is no part of the type: it speaks of memory that the caller lends apart.
 #[derive(Clone, Copy, PartialEq, Eq, Debug)]
 pub struct RowPair {
+    /// The number of a row's cells.
     pub width: usize,
+    /// The number of the row that is read.
     pub from: usize,
+    /// The number of the row that is written.
     pub to: usize,
 }
 

@@ -49,13 +49,13 @@ module _ {V : Type 0} (M : Payload V) (z : Size) where
       (λ h c cs e next s p. rw e (ap (λ (l : List Call). c ∷ l) (next (sound_taken M z h c s e) p.1)))
       (λ h c cs x e same s p. (let f = (accepted_possible h.contents h.log s c.unit c.event).1 p.0 in cc))
 
-  grown_by_unit : (logs : Logs) (c : Call) (u : ℕ) (l : List Event) → with_entry logs c.unit c.event u ++ l ≡ logs u ++ cond (eqb u c.unit) (c.event ∷ l) l
-  grown_by_unit logs c u l = grind (arith, append_assoc)
+  entry_by_unit : (logs : Logs) (c : Call) (u : ℕ) (l : List Event) → with_entry logs c.unit c.event u ++ l ≡ logs u ++ cond (eqb u c.unit) (c.event ∷ l) l
+  entry_by_unit logs c u l = grind (arith, append_assoc)
 
   -- the log of a run is what was there and the accepted calls
   log_accepted : (h : History V) (cs : List Call) (u : ℕ) → (run_from M z h cs).log u ≡ h.log u ++ by_unit (accepted_calls_from M z h cs) u
   log_accepted = by_calls M z (λ h cs. (u : ℕ) → (run_from M z h cs).log u ≡ h.log u ++ by_unit (accepted_calls_from M z h cs) u) (λ h u. sym (append-nil (h.log u)))
-      (λ h c cs e next u. rw e (ap (λ (g : History V). (run_from M z g cs).log u) (after_taken M z h c e) ∙ next u ∙ grown_by_unit h.log c u (by_unit (accepted_calls_from M z (taken M z h c) cs) u)))
+      (λ h c cs e next u. rw e (ap (λ (g : History V). (run_from M z g cs).log u) (after_taken M z h c e) ∙ next u ∙ entry_by_unit h.log c u (by_unit (accepted_calls_from M z (taken M z h c) cs) u)))
       (λ h c cs x e same u. rw e (ap (λ (g : History V). (run_from M z g cs).log u) (after_refused M z h c x e) ∙ same u))
 
   pub accepts_runs : (cs : List Call) → AcceptsRuns M z cs

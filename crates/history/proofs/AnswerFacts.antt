@@ -1,4 +1,4 @@
--- What each accepted call was told.
+-- What each accepted call was answered.
 -- A reply is made from the unit's rows just before the event and just after it, and these tell the truth: the own clock after it counts
 -- the unit's marks, the flags before a mark show its immediate predecessors, and the clocks after a mark are its stamp.
 use Rattle.std.proofs.Common.{◌≡◌, ℕ, suc, ◌↔◌, List, Some, inl, inr, refl, ap, arith}

@@ -15,9 +15,9 @@ abbrev pub Covered : Events → PositionSet → Type 0
 Covered ev S = (v p : ℕ) → IsMark ev v p → S v p → (w q : ℕ) × Top ev S w q × AtOrPast ev v p w q
 
 module _ (ev : Events) where
-  pub upto_past : (v p w q x y : ℕ) → AtOrPast ev v p w q → Past ev w q x y → Past ev v p x y
-  upto_past v p w q x y (inl e) h = subst₂ (λ a b. Past ev a b x y) (sym e.0) (sym e.1) h
-  upto_past v p w q x y (inr g) h = past_trans ev g h
+  pub at_or_past_then : (v p w q x y : ℕ) → AtOrPast ev v p w q → Past ev w q x y → Past ev v p x y
+  at_or_past_then v p w q x y (inl e) h = subst₂ (λ a b. Past ev a b x y) (sym e.0) (sym e.1) h
+  at_or_past_then v p w q x y (inr g) h = past_trans ev g h
 
   pub cover_same : (S R : PositionSet) → Same ev S R → Covered ev S → Covered ev R
   cover_same S R s c v p m r = let (w, q, t, h) = c v p m ((s v p m).1 r) in (w, q, top_same ev S R s w q t, h)
@@ -29,7 +29,7 @@ module _ {V : Type 0} (ev : Events) (start : V) (W : ℕ → ℕ → V → Type 
     where
       both : (w q x y : ℕ) → Top ev A w q → AtOrPast ev v p w q → Top ev B x y → AtOrPast ev w q x y → (w q : ℕ) × Top ev (Either A B) w q × AtOrPast ev v p w q
       both w q x y t h r (inl e) = (w, q, grind arith, h)
-      both w q x y t h r (inr g) = (x, y, grind (arith, past_trans), inr (upto_past ev v p w q x y h g))
+      both w q x y t h r (inr g) = (x, y, grind (arith, past_trans), inr (at_or_past_then ev v p w q x y h g))
 
       above : (w q : ℕ) × Top ev A w q × AtOrPast ev v p w q → (w q : ℕ) × Top ev (Either A B) w q × AtOrPast ev v p w q
       above (w, q, t, h) = elim (cases_lt (marks ev w q) (b w).clock) [

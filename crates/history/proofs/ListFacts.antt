@@ -1,6 +1,6 @@
--- Members of lists, and lists that hold exactly what has a property.
-use Rattle.std.proofs.Common.{◌≡◌, ℕ, ◌⊎◌, List, [], ◌∷◌, ◌++◌, map, length, sym, refl, ap, ◌∙◌, subst, inl, inr, ⊎_elim, arith, length-append}
-use Rattle.history.specs.Counting.{Among, Distinct, Exactly, HowMany}
+-- Members of lists, lists that hold exactly what has a property, and how many numbers pass a test.
+use Rattle.std.proofs.Common.{◌≡◌, ℕ, zero, suc, ◌+◌, ◌<◌, ◌⊎◌, Bool, if◌then◌else◌, List, [], ◌∷◌, ◌++◌, map, length, sym, refl, ap, ap₂, ◌∙◌, subst, inl, inr, ⊎_elim, arith, length-append}
+use Rattle.history.specs.Counting.{Among, Distinct, Exactly, HowMany, count_below}
 
 module _ {A : Type 0} where
   pub among_left : (a : A) (s t : List A) → Among a s → Among a (s ++ t)
@@ -97,3 +97,9 @@ module _ {A B : Type 0} (f : A → B) where
     complete = λ b p. subst (λ c. Among c (map f l)) (sym p.2) (among_map p.0 l (x.complete p.0 p.1));
     once = distinct_map apart l x.once;
   }
+
+-- only what the test says of the numbers below n counts
+pub count_below_same : (f g : ℕ → Bool) (n : ℕ) → ((m : ℕ) → m < n → f m ≡ g m) → count_below f n ≡ count_below g n
+count_below_same f g zero e = refl
+count_below_same f g (suc n) e =
+    ap₂ (λ (t : ℕ) (b : Bool). t + (if b then 1 else 0)) (count_below_same f g n (λ m h. e m (omega arith))) (e n (omega arith))

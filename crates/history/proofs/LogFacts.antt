@@ -12,17 +12,17 @@ module _ {A : Type 0} (f : ℕ → A) (u : ℕ) (x : A) where
   put_cases j = grind arith
 
 module _ {A : Type 0} (logs : ℕ → List A) (u : ℕ) (x : A) where
-  pub grown_length : length (with_entry logs u x u) ≡ suc (length (logs u))
-  grown_length = grind (arith, common_steps)
+  pub entry_length : length (with_entry logs u x u) ≡ suc (length (logs u))
+  entry_length = grind (arith, common_steps)
 
-  pub grown_other : (w : ℕ) → (w ≡ u → ⊥) → with_entry logs u x w ≡ logs w
-  grown_other w d = grind arith
+  pub entry_other : (w : ℕ) → (w ≡ u → ⊥) → with_entry logs u x w ≡ logs w
+  entry_other w d = grind arith
 
-  pub grown_here : at (with_entry logs u x) u (length (logs u)) ≡ Some x
-  grown_here = grind (arith, gets, places)
+  pub entry_here : at (with_entry logs u x) u (length (logs u)) ≡ Some x
+  entry_here = grind (arith, gets, places)
 
-  pub grown_keeps : (w i : ℕ) (e : A) → at logs w i ≡ Some e → at (with_entry logs u x) w i ≡ Some e
-  grown_keeps w i e p = grind (arith, gets, places)
+  pub entry_keeps : (w i : ℕ) (e : A) → at logs w i ≡ Some e → at (with_entry logs u x) w i ≡ Some e
+  entry_keeps w i e p = grind (arith, gets, places)
 
-  pub grown_cases : (w i : ℕ) (e : A) → at (with_entry logs u x) w i ≡ Some e → ((w ≡ u) × (i ≡ length (logs u)) × (x ≡ e)) ⊎ (at logs w i ≡ Some e)
-  grown_cases w i e p = grind (arith, gets, places)
+  pub entry_cases : (w i : ℕ) (e : A) → at (with_entry logs u x) w i ≡ Some e → ((w ≡ u) × (i ≡ length (logs u)) × (x ≡ e)) ⊎ (at logs w i ≡ Some e)
+  entry_cases w i e p = grind (arith, gets, places)

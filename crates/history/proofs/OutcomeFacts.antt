@@ -1,4 +1,4 @@
--- What a history says that units were told are the outcomes of their calls.
+-- The replies that a history has are the outcomes of the calls.
 use Rattle.std.proofs.Common.{◌≡◌, ℕ, List, [], ◌∷◌, ◌++◌, map, Some, None, sym, refl, ap, ◌∙◌, inl, inr, if◌then◌else◌, ◌==◌}
 use Rattle.std.proofs.lemmas.Bool.{cases_eq, eq-eqb, ne_eqb}
 use Rattle.std.proofs.lemmas.List.{map_push}
@@ -13,14 +13,14 @@ use Rattle.history.specs.Laws.{answers_of, RepliesAreAnswers}
 use Rattle.history.proofs.RunFacts.{taken, after_taken, after_refused, by_calls}
 
 module _ {V : Type 0} (M : Payload V) (z : Size) (u : ℕ) where
-  -- the answers that unit u was told
+  -- the answers to unit u
   abbrev answers_in : History V → List (Answer V)
   answers_in h = map (λ r. r.answer) (h.replies u)
 
   -- one reply more
-  grown_answers : (replies : ℕ → List (Reply V)) (v : ℕ) (r : Reply V) (xs : List (Answer V))
+  entry_answers : (replies : ℕ → List (Reply V)) (v : ℕ) (r : Reply V) (xs : List (Answer V))
       → map (λ (x : Reply V). x.answer) (with_entry replies v r u) ++ xs ≡ map (λ (x : Reply V). x.answer) (replies u) ++ (if u == v then r.answer ∷ xs else xs)
-  grown_answers replies v r xs = elim (cases_eq u v) [
+  entry_answers replies v r xs = elim (cases_eq u v) [
     | inl e ↦ rw (eq-eqb u v e) (ap (λ (l : List (Answer V)). l ++ xs) (map_push (λ (x : Reply V). x.answer) (replies v) r) ∙ append_assoc (map (λ (x : Reply V). x.answer) (replies v)) (r.answer ∷ []) xs ∙ ap (λ (w : ℕ). map (λ (x : Reply V). x.answer) (replies w) ++ r.answer ∷ xs) (sym e))
     | inr ne ↦ rw (ne_eqb u v ne) refl
   ]
@@ -32,7 +32,7 @@ module _ {V : Type 0} (M : Payload V) (z : Size) (u : ℕ) where
   took h c cs e ih =
       ap (λ (g : History V). answers_in (run_from M z g cs)) (after_taken M z h c e)
       ∙ ih
-      ∙ rw e (grown_answers h.replies c.unit (reply M z c.unit c.event (h.contents.rows c.unit) ((contents_after M z h.contents c.unit c.event).rows c.unit)) (answers_of u cs (outcomes_from M z (contents_after M z h.contents c.unit c.event) cs)))
+      ∙ rw e (entry_answers h.replies c.unit (reply M z c.unit c.event (h.contents.rows c.unit) ((contents_after M z h.contents c.unit c.event).rows c.unit)) (answers_of u cs (outcomes_from M z (contents_after M z h.contents c.unit c.event) cs)))
 
   turned : (h : History V) (c : Call) (cs : List Call) (x : Refusal) → refusal M z h.contents c.unit c.event ≡ Some x → Says h cs → Says h (c ∷ cs)
   turned h c cs x e ih = ap (λ (g : History V). answers_in (run_from M z g cs)) (after_refused M z h c x e) ∙ ih ∙ rw e refl

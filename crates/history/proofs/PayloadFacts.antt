@@ -1,4 +1,6 @@
 -- Clocks, flags and messages do not depend on what cells carry.
+-- Two boards that differ in nothing but values are asked the same questions and answer them alike, since no question looks at a value; and what a
+-- call does to clocks, flags and messages it does to both. By induction over the calls the two runs stay so.
 use Rattle.std.proofs.Common.{◌≡◌, ℕ, List, [], ◌∷◌, Some, None, Option, refl, ap, subst, arith}
 use Rattle.history.specs.declared.refusals.Refusal.{Refusal}
 use Rattle.history.specs.Events.{Logs}
@@ -20,7 +22,7 @@ module _ {V W : Type 0} where
       → ((w j : ℕ) → Like (f w j) (g w j)) → ((j : ℕ) → Like (r j) (t j)) → (w j : ℕ) → Like (put f u r w j) (put g u t w j)
   like_put f g u r t h k w j = grind (arith, h w j, k j)
 
-  -- the state that a call leaves or that was there
+  -- the contents that a call leaves, or those that were there
   same_taken : (o : Option Refusal) (s s' : Contents V) (t t' : Contents W) → SameButValues s' t' → SameButValues s t → SameButValues (if_taken o s' s) (if_taken o t' t)
   same_taken None s s' t t' new old = new
   same_taken (Some e) s s' t t' new old = old

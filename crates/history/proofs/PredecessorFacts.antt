@@ -24,19 +24,19 @@ module _ (ev : Events) where
   pub before_past : (v j u i : ℕ) → IsMark ev u i → Before ev v j u i → Past ev v j u i
   before_past v j u i (l, e) b = grind (arith, before_strict)
 
-  upto_before : {v j w l u k : ℕ} → AtOrBefore ev v j w l → Before ev w l u k → Before ev v j u k
-  upto_before x b = grind (arith, chain)
+  at_or_before_then : {v j w l u k : ℕ} → AtOrBefore ev v j w l → Before ev w l u k → Before ev v j u k
+  at_or_before_then x b = grind (arith, chain)
 
   before_later : {v j u k i : ℕ} → k ≤ i → Stands ev u k → Stands ev u i → Before ev v j u k → Before ev v j u i
   before_later le s t b = grind (arith, chain, earlier)
 
-  past_upto : {v j u h : ℕ} → Stands ev v j → (i : ℕ) → h ≤ suc i → Stands ev u i → Past ev v j u h → AtOrBefore ev v j u i
-  past_upto a i le b (own e lt) = grind (arith, earlier)
-  past_upto a i le b (got k m w l lt r s p) = inr (before_later (omega arith) (Receive m, r) b (upto_before (past_upto a l (omega arith) (Send m, s) p) (message m s r)))
+  past_at_or_before : {v j u h : ℕ} → Stands ev v j → (i : ℕ) → h ≤ suc i → Stands ev u i → Past ev v j u h → AtOrBefore ev v j u i
+  past_at_or_before a i le b (own e lt) = grind (arith, earlier)
+  past_at_or_before a i le b (got k m w l lt r s p) = inr (before_later (omega arith) (Receive m, r) b (at_or_before_then (past_at_or_before a l (omega arith) (Send m, s) p) (message m s r)))
 
   pub past_before : (v j u i : ℕ) → Stands ev v j → Stands ev u i → Past ev v j u i → Before ev v j u i
   past_before v j u i a b (own e lt) = earlier (sym e) lt a b
-  past_before v j u i a b (got k m w l lt r s p) = chain u k (upto_before (past_upto a l (omega arith) (Send m, s) p) (message m s r)) (earlier refl lt (Receive m, r) b)
+  past_before v j u i a b (got k m w l lt r s p) = chain u k (at_or_before_then (past_at_or_before a l (omega arith) (Send m, s) p) (message m s r)) (earlier refl lt (Receive m, r) b)
 
   pub stands : (v p : ℕ) → IsMark ev v p → Stands ev v p
   stands v p (l, e) = (Mark l, e)

@@ -1,8 +1,8 @@
 -- The theorems of this crate that other crates may cite: what every list of calls leads to, what rows show of the marks, how calls
 -- are gone through one by one, and lists that hold exactly what has a property.
-use Rattle.std.proofs.Common.{◌≡◌, ℕ, suc, ◌<◌, ◌⊎◌, ◌↔◌, true, List, [], ◌∷◌, ◌++◌, map, length, Some, None, sym, subst}
+use Rattle.std.proofs.Common.{◌≡◌, ℕ, suc, ◌<◌, ◌⊎◌, ◌↔◌, Bool, true, List, [], ◌∷◌, ◌++◌, map, length, Some, None, sym, subst}
 use Rattle.history.specs.Board.{History, refusal, history_after, run, accepted_calls}
-use Rattle.history.specs.Counting.{Exactly, HowMany}
+use Rattle.history.specs.Counting.{Exactly, HowMany, count_below}
 use Rattle.history.specs.Events.{Events, at, IsSent, IsReceived}
 use Rattle.history.specs.Laws.{run_events, Answered, AcceptsRuns, MessagesAnswered, RepliesAreAnswers, OrderFree, StampsDecide}
 use Rattle.history.specs.Marks.{IsMark}
@@ -42,11 +42,11 @@ accepts_runs M z cs = AcceptanceFacts.accepts_runs M z cs
 pub messages_answered : (V : Type 0) → MessagesAnswered V
 messages_answered V = AnswerFacts.messages_answered V
 
--- Each unit was told what its accepted calls were answered, in the order handed in.
+-- The replies to each unit are the answers to its accepted calls, in the order handed in.
 pub replies_are_answers : (V : Type 0) → RepliesAreAnswers V
 replies_are_answers V = OutcomeFacts.replies_are_answers V
 
--- Each unit was told as many replies as it has accepted events.
+-- Each unit has as many replies as accepted events.
 pub replies_as_long : {V : Type 0} (M : Payload V) (z : Size) (cs : List Call) (u : ℕ) → length ((run M z cs).replies u) ≡ length ((run M z cs).log u)
 replies_as_long M z cs u = (said_run M z cs).as_long u
 
@@ -66,7 +66,7 @@ run_unit z cs ok u i = StampOrderFacts.run_unit z cs ok u i
 -- ---- What rows show of marks
 
 -- The value of each accepted mark: if what a mark makes of a row that shows its immediate predecessors with right values is right
--- for the mark, then each accepted mark was told a right value.
+-- for the mark, then each accepted mark was answered a right value.
 pub values_right : {V : Type 0} (M : Payload V) (z : Size) (cs : List Call) (W : ℕ → ℕ → V → Type 0)
     → ((u i l : ℕ) (r : ℕ → Cell V) → run_events M z cs u i ≡ Some (Mark l) → ShowsPredecessors (run_events M z cs) W u i r → W u i (M.make r u l))
     → (u i l : ℕ) → run_events M z cs u i ≡ Some (Mark l) → (a : Answered M z cs u i) × W u i a.value
@@ -106,8 +106,8 @@ pub run_push : {V : Type 0} (M : Payload V) (z : Size) (cs : List Call) (c : Cal
 run_push M z cs c = RunFacts.run_push M z cs c
 
 -- A log that has grown by one entry has it at the position that was the length of the log.
-pub grown_here : {A : Type 0} (logs : ℕ → List A) (u : ℕ) (x : A) → at (with_entry logs u x) u (length (logs u)) ≡ Some x
-grown_here logs u x = LogFacts.grown_here logs u x
+pub entry_here : {A : Type 0} (logs : ℕ → List A) (u : ℕ) (x : A) → at (with_entry logs u x) u (length (logs u)) ≡ Some x
+entry_here logs u x = LogFacts.entry_here logs u x
 
 -- Where f is put to be x at u, it is x there and itself elsewhere.
 pub put_cases : {A : Type 0} (f : ℕ → A) (u : ℕ) (x : A) (j : ℕ) → ((j ≡ u) × (put f u x j ≡ x)) ⊎ ((j ≡ u → ⊥) × (put f u x j ≡ f j))
@@ -146,6 +146,10 @@ exactly_like to from l = ListFacts.exactly_like to from l
 pub exactly_same : {A : Type 0} (F : List A → List A → Type 0) → F [] [] → ((a : A) (l s t : List A) → F l (s ++ t) → F (a ∷ l) (s ++ (a ∷ t)))
     → {P : A → Type 0} (k l : List A) → Exactly P k → Exactly P l → F k l
 exactly_same F none more k l = ListFacts.exactly_same F none more k l
+
+-- Two tests that agree on the numbers below n are passed by equally many of these.
+pub count_below_same : (f g : ℕ → Bool) (n : ℕ) → ((m : ℕ) → m < n → f m ≡ g m) → count_below f n ≡ count_below g n
+count_below_same f g n e = ListFacts.count_below_same f g n e
 
 -- There is one number of things of which P is true.
 pub how_many_one : {A : Type 0} {P : A → Type 0} (m n : ℕ) → HowMany P m → HowMany P n → m ≡ n

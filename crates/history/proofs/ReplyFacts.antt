@@ -1,4 +1,4 @@
--- What the units were told is what their rows say.
+-- The replies to the units are what their rows say.
 -- Each reply is made from the unit's rows just before its event and just after it, and stands at the event's position. An accepted call adds
 -- one event and one reply at one position; later events leave earlier rows and replies as they are. A unit has one row at each position, so
 -- the logs alone say what the replies are.
@@ -16,16 +16,16 @@ use Rattle.history.specs.Board.{Reply, History, new_history, refusal, contents_a
 use Rattle.history.proofs.UnitRows.{Row}
 use Rattle.history.proofs.RowTruth.{Once}
 use Rattle.history.proofs.RowUniqueness.{row_one}
-use Rattle.history.proofs.LogFacts.{grown_length, grown_other, grown_here, grown_keeps, grown_cases}
+use Rattle.history.proofs.LogFacts.{entry_length, entry_other, entry_here, entry_keeps, entry_cases}
 use Rattle.history.proofs.Soundness.{grows, sound_new}
 use Rattle.history.proofs.SoundSteps.{sound_accepted}
 use Rattle.history.proofs.RunFacts.{taken, SoundAt, run_keeps}
 
 -- each event has a reply, made from the unit's rows before and after it
-pub record Said {V : Type 0} (M : Payload V) (z : Size) (logs : Logs) (told : ℕ → List (Reply V)) : Type 0 where
-  pub as_long : (u : ℕ) → length (told u) ≡ length (logs u)
+pub record Said {V : Type 0} (M : Payload V) (z : Size) (logs : Logs) (replies : ℕ → List (Reply V)) : Type 0 where
+  pub as_long : (u : ℕ) → length (replies u) ≡ length (logs u)
   pub says : (u i : ℕ) (e : Event) → at logs u i ≡ Some e
-      → (r t : ℕ → Cell V) × Row M (at logs) u i r × Row M (at logs) u (suc i) t × (at told u i ≡ Some (reply M z u e r t))
+      → (r t : ℕ → Cell V) × Row M (at logs) u i r × Row M (at logs) u (suc i) t × (at replies u i ≡ Some (reply M z u e r t))
 
 -- at each position of a list something stands
 there : {A : Type 0} (l : List A) (i : ℕ) → i < length l → (e : A) × (slice_get l i ≡ Some e)
@@ -51,7 +51,7 @@ module _ {V : Type 0} (M : Payload V) (z : Size) where
     unfolding Says
     says_before w i x p =
         let (r, t, y, g, q) = d.says w i x p in
-        (r, t, grows M z h.contents h.log s c.unit c.event y, grows M z h.contents h.log s c.unit c.event g, grown_keeps h.replies c.unit answer w i _ q)
+        (r, t, grows M z h.contents h.log s c.unit c.event y, grows M z h.contents h.log s c.unit c.event g, entry_keeps h.replies c.unit answer w i _ q)
 
     says_now : Says c.unit (length (h.log c.unit)) c.event
     unfolding Says answer rows
@@ -59,18 +59,18 @@ module _ {V : Type 0} (M : Payload V) (z : Size) where
       h.contents.rows c.unit,
       rows,
       grows M z h.contents h.log s c.unit c.event (s.rows_are c.unit),
-      subst (λ (k : ℕ). Row M (at (with_entry h.log c.unit c.event)) c.unit k rows) (grown_length h.log c.unit c.event) ((sound_accepted M z h.contents h.log s c.unit c.event ok).rows_are c.unit),
-      subst (λ (k : ℕ). at (with_entry h.replies c.unit answer) c.unit k ≡ Some answer) (d.as_long c.unit) (grown_here h.replies c.unit answer),
+      subst (λ (k : ℕ). Row M (at (with_entry h.log c.unit c.event)) c.unit k rows) (entry_length h.log c.unit c.event) ((sound_accepted M z h.contents h.log s c.unit c.event ok).rows_are c.unit),
+      subst (λ (k : ℕ). at (with_entry h.replies c.unit answer) c.unit k ≡ Some answer) (d.as_long c.unit) (entry_here h.replies c.unit answer),
     )
 
     as_long_now : (w : ℕ) → length (with_entry h.replies c.unit answer w) ≡ length (with_entry h.log c.unit c.event w)
-    as_long_now w = grind (arith, grown_length, grown_other)
+    as_long_now w = grind (arith, entry_length, entry_other)
 
     pub said_accepted : Said M z (taken M z h c).log (taken M z h c).replies
     unfolding Says answer rows
     said_accepted = record {
       as_long = as_long_now;
-      says = λ w i x p. ⊎_elim (λ q. rw (q.0, q.1, ← q.2) says_now) (says_before w i x) (grown_cases h.log c.unit c.event w i x p);
+      says = λ w i x p. ⊎_elim (λ q. rw (q.0, q.1, ← q.2) says_now) (says_before w i x) (entry_cases h.log c.unit c.event w i x p);
     }
 
   -- a sound history that has said what its rows say

@@ -30,16 +30,16 @@ numbered ev v (suc n) there = more (there n (omega arith)) (numbered ev v n (λ 
 
 module _ {V : Type 0} (M : Payload V) (ev : Events) (once : Once ev) (u i l : ℕ) (e : ev u i ≡ Some (Mark l)) (t : ℕ → Cell V) (d : Row M ev u (suc i) t) where
   -- a mark is known just after the mark (u, i) exactly when it is this mark or before it
-  known_upto : (v p : ℕ) → IsMark ev v p → marks ev v p < (t v).clock → AtOrBefore ev v p u i
-  known_upto v p m h = grind (arith, past_before, past_quiet, rows_true)
+  known_at_or_before : (v p : ℕ) → IsMark ev v p → marks ev v p < (t v).clock → AtOrBefore ev v p u i
+  known_at_or_before v p m h = grind (arith, past_before, past_quiet, rows_true)
 
-  upto_known : (v p : ℕ) → IsMark ev v p → AtOrBefore ev v p u i → marks ev v p < (t v).clock
-  upto_known v p m h = ((rows_true M ev once d).cells v).known p m (grind (arith, own, past_more, before_past))
+  at_or_before_known : (v p : ℕ) → IsMark ev v p → AtOrBefore ev v p u i → marks ev v p < (t v).clock
+  at_or_before_known v p m h = ((rows_true M ev once d).cells v).known p m (grind (arith, own, past_more, before_past))
 
   pub clocks_stamp : Stamp ev u i (λ v. (t v).clock)
   clocks_stamp v =
       let (ps, x, n) = numbered ev v (t v).clock ((rows_true M ev once d).cells v).there in
-      (ps, exactly_like (λ p h. (h.0, known_upto v p h.0 h.1)) (λ p h. (h.0, upto_known v p h.0 h.1)) ps x, n)
+      (ps, exactly_like (λ p h. (h.0, known_at_or_before v p h.0 h.1)) (λ p h. (h.0, at_or_before_known v p h.0 h.1)) ps x, n)
 
   -- what any stamp of the mark says of a mark, and of its own number
   module _ (stamp : ℕ → ℕ) (is : Stamp ev u i stamp) where
@@ -47,7 +47,7 @@ module _ {V : Type 0} (M : Payload V) (ev : Events) (once : Once ev) (u i l : �
     stamp_clock v = how_many_one (stamp v) (t v).clock (is v) (clocks_stamp v)
 
     pub stamp_knows : (v p : ℕ) → IsMark ev v p → (marks ev v p < stamp v) ↔ AtOrBefore ev v p u i
-    stamp_knows v p m = grind (arith, known_upto, stamp_clock, upto_known)
+    stamp_knows v p m = grind (arith, known_at_or_before, stamp_clock, at_or_before_known)
 
     pub stamp_own : stamp u ≡ marks ev u (suc i)
     stamp_own = stamp_clock u ∙ (rows_true M ev once d).mine

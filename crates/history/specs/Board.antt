@@ -12,7 +12,7 @@ use Rattle.history.specs.declared.calls.Event.TheVariants.{Mark, Receive, Send}
 use Rattle.history.specs.declared.calls.Event.{Event}
 use Rattle.history.specs.declared.calls.Answer.{Answer}
 use Rattle.history.specs.declared.calls.Answer.TheVariants.{Sent, Received, Marked}
-use Rattle.history.specs.Messages.{handled_post}
+use Rattle.history.specs.Messages.{post_after}
 use Rattle.history.specs.Refusals.{ask}
 use Rattle.history.specs.Rows.{Payload, put, new_row, merge_row, mark_row}
 use Rattle.history.specs.declared.cells.Cell.{Cell}
@@ -70,10 +70,10 @@ module _ {V : Type 0} (M : Payload V) where
     abbrev pub refusal : Contents V → ℕ → Event → Option Refusal
     refusal s u (Send m) =
         ask (nat_lt u z.units) NoSuchUnit
-        (ask (nat_lt m z.messages) NoSuchMessage (result_err (handled_post (s.posts m) Sending)))
+        (ask (nat_lt m z.messages) NoSuchMessage (result_err (post_after (s.posts m) Sending)))
     refusal s u (Receive m) =
         ask (nat_lt u z.units) NoSuchUnit
-        (ask (nat_lt m z.messages) NoSuchMessage (result_err (handled_post (s.posts m) Receiving)))
+        (ask (nat_lt m z.messages) NoSuchMessage (result_err (post_after (s.posts m) Receiving)))
     refusal s u (Mark l) =
         ask (nat_lt u z.units) NoSuchUnit
         (ask (z.fits u l) NoSuchLabel (ask (nat_lt (s.rows u u).clock z.limit) ClockFull None))
@@ -84,12 +84,12 @@ module _ {V : Type 0} (M : Payload V) where
     contents_after s u (Send m) = record {
       rows = s.rows;
       message_rows = put s.message_rows m (s.rows u);
-      posts = put s.posts m (result_unwrap_or (handled_post (s.posts m) Sending) (s.posts m));
+      posts = put s.posts m (result_unwrap_or (post_after (s.posts m) Sending) (s.posts m));
     }
     contents_after s u (Receive m) = record {
       rows = put s.rows u (merge_row M.start (s.rows u) (s.message_rows m));
       message_rows = s.message_rows;
-      posts = put s.posts m (result_unwrap_or (handled_post (s.posts m) Receiving) (s.posts m));
+      posts = put s.posts m (result_unwrap_or (post_after (s.posts m) Receiving) (s.posts m));
     }
     contents_after s u (Mark l) = record {
       rows = put s.rows u (mark_row M u l (s.rows u));

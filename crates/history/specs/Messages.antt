@@ -19,13 +19,13 @@ abbrev pub unsent : Post
 unsent = Unsent
 
 -- What a send or a receipt makes of a message, or why it is refused.
-abbrev pub handled_post : Post → Handling → Result Post Refusal
-handled_post Unsent Sending = Ok OnItsWay
-handled_post OnItsWay Sending = Err SentBefore
-handled_post Delivered Sending = Err SentBefore
-handled_post Unsent Receiving = Err NeverSent
-handled_post OnItsWay Receiving = Ok Delivered
-handled_post Delivered Receiving = Err ReceivedBefore
+abbrev pub post_after : Post → Handling → Result Post Refusal
+post_after Unsent Sending = Ok OnItsWay
+post_after OnItsWay Sending = Err SentBefore
+post_after Delivered Sending = Err SentBefore
+post_after Unsent Receiving = Err NeverSent
+post_after OnItsWay Receiving = Ok Delivered
+post_after Delivered Receiving = Err ReceivedBefore
 
 -- Whether a message in this state is on its way: it was sent, and not received.
 abbrev pub is_on_its_way : Post → Bool

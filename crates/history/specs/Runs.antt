@@ -1,4 +1,4 @@
--- Calls, the size of a board, and what a real run can do, told by the events alone.
+-- Calls, the size of a board, and what a real run can do, by the events alone.
 use Rattle.std.specs.Prelude.{◌≡◌, ℕ, ◌<◌, Bool, true, if◌then◌else◌, List, [], ◌∷◌, ◌++◌, length, Some, ◌==◌}
 use Rattle.history.specs.declared.calls.Call.{Call}
 use Rattle.history.specs.Events.{Events, Logs, at, IsSent, IsReceived}

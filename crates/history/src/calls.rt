@@ -9,8 +9,11 @@ pub type Letter = u8;
 /// What a unit does: it sends a message, receives one, or makes a mark with a label.
 #[derive(Clone, Copy, PartialEq, Eq, Debug)]
 pub enum Event {
+    /// It sends the message of that number.
     Send(usize),
+    /// It receives the message of that number.
     Receive(usize),
+    /// It makes a mark with that label.
     Mark(u8),
 }
 
@@ -33,7 +36,10 @@ pub struct Marked<V> {
 /// What an accepted call is answered: a send or a receipt the number of its unit's marks so far.
 #[derive(Clone, Copy, PartialEq, Eq, Debug)]
 pub enum Answer<V> {
+    /// To a send: its unit's own clock.
     Sent(Clock),
+    /// To a receipt: its unit's own clock.
     Received(Clock),
+    /// To a mark.
     Marked(Marked<V>),
 }

@@ -1,6 +1,6 @@
 //! What becomes of a message.
 ghost use Rattle.std.specs.Prelude.{◌≡◌};
-ghost use Rattle.history.specs.Messages.{post_number, handled_post, is_on_its_way};
+ghost use Rattle.history.specs.Messages.{post_number, post_after, is_on_its_way};
 
 use super::refusals::Refusal;
 
@@ -27,7 +27,9 @@ impl From<Post> for u8 {
 /// What a call does with a message.
 #[derive(Clone, Copy, PartialEq, Eq, Debug)]
 pub enum Handling {
+    /// A unit sends it.
     Sending,
+    /// A unit receives it.
     Receiving,
 }
 
@@ -37,8 +39,8 @@ impl Post {
 
     /// What a send or a receipt makes of the message. Refuses a second send (7), the receipt of a message never sent (8) and a second
     /// receipt (9).
-    pub fn handled(self, handling: Handling) -> Result<Post, Refusal>
-        ensures { result ≡ handled_post self handling }
+    pub fn after(self, handling: Handling) -> Result<Post, Refusal>
+        ensures { result ≡ post_after self handling }
     {
         match (self, handling) {
             (Post::Unsent, Handling::Sending) => Ok(Post::OnItsWay),

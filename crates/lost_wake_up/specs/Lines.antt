@@ -11,7 +11,7 @@ use Rattle.measures.specs.declared.judges.JudgedValue.{JudgedValue}
 use Rattle.text.specs.Hex.{hex_word}
 use Rattle.text.specs.Lines.{bit}
 
--- What is told of an answer: a clock; of a mark its clock, its predecessors, the set of states and the verdict; or the refusal's number.
+-- What a line says of an answer: a clock; of a mark its clock, its predecessors, the set of states and the verdict; or the refusal's number.
 abbrev pub reply_text : Result (Answer (JudgedValue ℕ)) Refusal → List ℕ
 reply_text (Ok (Sent clock)) = decimal clock
 reply_text (Ok (Received clock)) = decimal clock
@@ -20,12 +20,12 @@ reply_text (Ok (Marked m)) =
     ++ codes " " ++ decimal (bit m.value.verdict.all)
 reply_text (Err e) = codes "refused " ++ decimal (number e)
 
--- what is told of an event: its kind, and the number of its message or label
+-- what a line says of an event: its kind, and the number of its message or label
 abbrev pub event_text : Event → List ℕ
 event_text (Send message) = codes "send " ++ decimal message
 event_text (Receive message) = codes "receive " ++ decimal message
 event_text (Mark label) = codes "mark " ++ decimal label
 
--- what is told of a call: its unit, its event and the reply
+-- what a line says of a call: its unit, its event and the reply
 abbrev pub call_text : Call → Result (Answer (JudgedValue ℕ)) Refusal → List ℕ
 call_text call reply = decimal call.unit ++ codes " " ++ event_text call.event ++ codes " " ++ reply_text reply

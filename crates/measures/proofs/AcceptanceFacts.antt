@@ -6,6 +6,7 @@ use Rattle.std.proofs.lemmas.Bool.Decides.{same_from_decides, Decides-at, Decide
 use Rattle.bitset.specs.Sets.{Member, meets, within}
 use Rattle.std.proofs.lemmas.Nat.Bits.{bit_at-pow_same}
 use Rattle.bitset.proofs.Promises.{bit_pow, member_or, or_member_left, or_member_right, meets_members, within_members}
+use Rattle.measures.specs.Limits.{most_labels}
 use Rattle.measures.specs.Words.{Word, Labels}
 use Rattle.measures.specs.Measures.{word_value_from, word_value}
 use Rattle.measures.specs.Judges.{Judges}
@@ -48,7 +49,7 @@ within_one f q =
     (λ m k i. subst (λ (j : ℕ). Member j f) (bit_pow q k i) m)
     (within_members (2 ^ q) f)
 
-module _ (states labels start : ℕ) (table : List ℕ) (in_range : (0 < labels) × (labels ≤ 64)) (begins : start < states) (complete : (k : ℕ) → k < states * labels → slice_index table k < states) where
+module _ (states labels start : ℕ) (table : List ℕ) (in_range : (0 < labels) × (labels ≤ most_labels)) (begins : start < states) (complete : (k : ℕ) → k < states * labels → slice_index table k < states) where
   word_value_pow : (q : ℕ) (w : Word) → q < states → Labels labels w → word_value_from (state_sets states labels start table) (2 ^ q) w ≡ 2 ^ leads (next labels table) q w
   word_value_pow q [] hq ls = refl
   word_value_pow q (l ∷ w) hq ls =

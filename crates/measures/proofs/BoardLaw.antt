@@ -1,6 +1,6 @@
 -- The law of boards follows from the law of runs: what a board answered and what its memory shows are a run's.
 -- A board just made has been handed no call, and each call that follows the rules is one more, so whatever list of calls it was handed, its
--- answers are the outcomes of a run and its memory shows the state of the run. Each clause of the law is then one on runs, read off the
+-- answers are the outcomes of a run and its memory shows the contents of the run. Each clause of the law is then one on runs, read off the
 -- answers and the memory.
 use Rattle.std.proofs.Common.{◌≡◌, ℕ, ◌+◌, ◌*◌, ◌-◌, ◌<◌, ◌≤◌, Bool, true, false, ◌⊎◌, List, [], ◌∷◌, ◌++◌, length, take, set, get_or, Some, None, Ok, Err, Result, IsTrue, sym, refl, ap, ap₂, ◌∙◌, subst, inl, inr, ⊎_elim, suc, arith, rules}
 use Rattle.std.specs.List.{slice_get}
@@ -29,10 +29,10 @@ use Rattle.history.specs.declared.calls.Call.{Call}
 use Rattle.history.specs.Board.{Contents, Reply, new_history, mark_answer, outcomes, run}
 use Rattle.history.specs.declared.calls.Answer.{Answer}
 use Rattle.history.specs.Laws.{SameHistory, OrderFree, MessageAnswered, answers_of}
-use Rattle.history.proofs.Promises.{accepts_runs, messages_answered, replies_are_answers, order_free, marks_ranged, last_stamp, exactly_none}
+use Rattle.history.proofs.Promises.{accepts_runs, messages_answered, replies_are_answers, order_free, marks_ranged, last_stamp, count_below_same, exactly_none}
 use Rattle.history.specs.Limits.{most_marks}
-use Rattle.causality.specs.Boards.{Memory, Holds, Shows, Follows, Makes, state_answer, left_answer, Obeys, has_room, setup}
-use Rattle.causality.proofs.Promises.{each_shows, count_below_same}
+use Rattle.causality.specs.Boards.{Memory, Holds, Shows, FollowsRules, Makes, state_answer, left_answer, Obeys, has_room, setup}
+use Rattle.causality.proofs.Promises.{each_shows}
 use Rattle.measures.specs.Words.{Word}
 use Rattle.measures.specs.Measures.{Meaning, Lawful}
 use Rattle.measures.specs.Worths.{measured_payload, measured_size, measured_rules}
@@ -42,7 +42,7 @@ use Rattle.measures.proofs.JudgeFacts.{marks_judged}
 use Rattle.measures.proofs.ReplayFacts.{state_push, outcomes_push, last_outcome, accepted_taken}
 use Rattle.measures.proofs.ValueFacts.{valued}
 
--- What an accepted call was told is what it was answered.
+-- The reply to an accepted call is its answer.
 reply_answered : {V : Type 0} (M : Payload V) (z : Size) (cs : List Call) (u i : ℕ) (r : Reply V) → slice_get ((run M z cs).replies u) i ≡ Some r
     → slice_get (answers_of u cs (outcomes M z cs)) i ≡ Some r.answer
 reply_answered {V} M z cs u i r e =
@@ -55,7 +55,7 @@ row_cases : (n k r : ℕ) → r < n + k → (r < n) ⊎ ((p : ℕ) × (p < k) ×
 row_cases n k r h = ⊎_elim inl (λ (l : n ≤ r). inr (r - n, omega arith, omega arith)) (cases_lt r n)
 
 module _ {V : Type 0} (n k : ℕ) (s t : Contents V) (rows : (u j : ℕ) → s.rows u j ≡ t.rows u j) (message_rows : (p j : ℕ) → s.message_rows p j ≡ t.message_rows p j) where
-  -- Grids that hold one part of states with the same rows hold the same in each row.
+  -- Grids that hold one part of contents with the same rows hold the same in each row.
   same_grid : {X : Type 0} (part : Cell V → X) (other : X) (xs ys : List X) → Holds part other n k xs s → Holds part other n k ys t
       → (r j : ℕ) → r < n + k → j < n → slice_index_or xs (r * n + j) other ≡ slice_index_or ys (r * n + j) other
   same_grid part other xs ys a b r j h w = elim (row_cases n k r h) [
@@ -63,7 +63,7 @@ module _ {V : Type 0} (n k : ℕ) (s t : Contents V) (rows : (u j : ℕ) → s.r
     | inr (p, l, e) ↦ rw e (a.message_rows p j l w ∙ ap part (message_rows p j) ∙ sym (b.message_rows p j l w))
   ]
 
-  -- Memories that show such states stand alike.
+  -- Memories that show such contents stand alike.
   stand_alike : (start : V) (a b : Memory V) → ((p : ℕ) → s.posts p ≡ t.posts p) → Shows start n k a s → Shows start n k b t → StandAlike start n k a b
   stand_alike start a b posts x y = record {
     clocks = same_grid (λ c. c.clock) 0 a.clocks.cells.now b.clocks.cells.now x.clocks y.clocks;
@@ -101,7 +101,7 @@ module _ {V : Type 0} (m : Meaning V) (n k : ℕ) where
       → Played m n k cs xs old → Obeys (setup (measured_rules m) n k) c old new x → has_room n k old ≡ true → Played m n k (cs ++ c ∷ []) (xs ++ x ∷ []) new
   played_called cs xs old new c x p o there =
       let s = (run M z cs).contents in
-      let f = subst (λ (b : Bool). Follows M z c b old new x) there o.follows in
+      let f = subst (λ (b : Bool). FollowsRules M z c b old new x) there o.follows in
       record {
         answers_are = ap₂ (λ (l : List (Result (Answer V) Refusal)) (y : Result (Answer V) Refusal). l ++ y ∷ []) p.answers_are (f.answer s p.shows)
             ∙ sym (outcomes_push M z cs c);
@@ -113,7 +113,7 @@ module _ {V : Type 0} (m : Meaning V) (n k : ℕ) where
       → Played m n k cs xs old → Obeys (setup (measured_rules m) n k) c old new x → has_room n k old ≡ false → (x ≡ Err MemoryTooShort) × Played m n k cs xs new
   played_short cs xs old new c x p o short =
       let s = (run M z cs).contents in
-      let f = subst (λ (b : Bool). Follows M z c b old new x) short o.follows in
+      let f = subst (λ (b : Bool). FollowsRules M z c b old new x) short o.follows in
       (f.answer s p.shows, record { answers_are = p.answers_are; shows = f.contents s p.shows })
 
   -- One call more of two lists that a loop goes over.
@@ -145,7 +145,7 @@ module _ {V : Type 0} (m : Meaning V) (n k : ℕ) where
     left = same_left m.start n k a b same;
   }
 
-  -- What a mark was told is what it was answered.
+  -- The reply to a mark is its answer.
   mark_answered : (cs : List Call) (xs : List (Result (Answer V) Refusal)) (memory : Memory V) → Played m n k cs xs memory
       → (u i : ℕ) → Valued m n k most_marks cs u i → MarkAnswered m n k cs xs u i
   mark_answered cs xs memory p u i v = record {
@@ -154,13 +154,13 @@ module _ {V : Type 0} (m : Meaning V) (n k : ℕ) where
         ∙ reply_answered M z cs u i (record { answer = mark_answer v.answered.clock v.answered.predecessors v.answered.value; stamp = v.answered.stamp }) v.answered.reply_is;
   }
 
-  -- What a send or a receipt was told is what it was answered.
+  -- The reply to a send or a receipt is its answer.
   message_answered : (cs : List Call) (xs : List (Result (Answer V) Refusal)) (memory : Memory V) → Played m n k cs xs memory → (u i : ℕ) (e : Event)
       → accepted_events m n k most_marks cs u i ≡ Some e
       → (a : Answer V) × (slice_get (answers_of u cs xs) i ≡ Some a) × MessageAnswered (accepted_events m n k most_marks cs) u i e a
   message_answered cs xs memory q u i e p =
-      let (r, told, is) = messages_answered V M z cs u i e p in
-      (r.answer, ap (λ (l : List (Result (Answer V) Refusal)). slice_get (answers_of u cs l) i) q.answers_are ∙ reply_answered M z cs u i r told, is)
+      let (r, replied, is) = messages_answered V M z cs u i e p in
+      (r.answer, ap (λ (l : List (Result (Answer V) Refusal)). slice_get (answers_of u cs l) i) q.answers_are ∙ reply_answered M z cs u i r replied, is)
 
 -- The stamp of a mark has no marks of units that the board does not have.
 no_marks : (ev : Events) (z : Size) → Ranged ev z → (v : ℕ) → z.units ≤ v → (P : ℕ → Type 0) → HowMany (λ j. IsMark ev v j × P j) 0
@@ -188,7 +188,7 @@ module _ {V : Type 0} (m : Meaning V) (n k : ℕ) (cs : List Call) (xs : List (R
     | inr h ↦ rw (past_row v h) (no_marks (accepted_events m n k most_marks cs) (measured_size m n k most_marks) ranged v h (λ j. AtOrBefore (accepted_events m n k most_marks cs) v j u i))
   ]
 
--- What is true of the value told at each mark of every run is true of the value answered.
+-- What is true of the value in the reply to each mark of every run is true of the value answered.
 pub at_answers : {V : Type 0} (m : Meaning V) (P : Events → ℕ → ℕ → V → Type 0) → AtMarks m P → AtAnswers m P
 unfolding mark_answered
 at_answers m P law n k cs xs memory p u i l e = let (v, is) = law n k most_marks cs u i l e in (mark_answered m n k cs xs memory p u i v, is)

@@ -1,4 +1,6 @@
 -- The flow count is the number of flows, and the span has the numbers of marks of the shortest and the longest.
+-- Along one flow the count is 1, so joined over a list it is the list's length, up to the cap. Along one flow both lengths of the span are its number
+-- of marks, up to the cap, and the join has the least and the greatest of a list, each of which one of the flows has.
 use Rattle.std.proofs.Common.{◌≡◌, ℕ, ◌+◌, ◌<◌, ◌≤◌, ◌⊎◌, List, [], ◌∷◌, map, length, min, max, sym, refl, ap, ◌∙◌, ap₂, subst, inl, inr, ⊎_elim, arith}
 use Rattle.std.proofs.lemmas.Bool.{lt-ltb, cases_lt}
 use Rattle.std.proofs.lemmas.List.{length-map}
@@ -8,8 +10,9 @@ use Rattle.history.specs.Flows.{Longest, letter_at, word}
 use Rattle.measures.specs.declared.spans.Lengths.{Lengths}
 use Rattle.measures.specs.Words.{Word}
 use Rattle.measures.specs.Measures.{Spelled, word_value_from, word_value, join_of}
-use Rattle.measures.specs.Counts.{IsCount, flow_count, flow_count_lawful, Counted, MarksCounted}
+use Rattle.measures.specs.Counts.{IsFlowCount, flow_count, flow_count_lawful, Counted, MarksCounted}
 use Rattle.measures.specs.Laws.{join_over, accepted_events, AtMarks}
+use Rattle.measures.specs.Limits.{most_flows, most_labels, most_length}
 use Rattle.measures.specs.Spans.{lengths, longer, span, span_lawful, Spanned, MarksSpanned}
 use Rattle.measures.proofs.BoardLaw.{at_answers}
 use Rattle.measures.proofs.JudgeFacts.{flow_spelled}
@@ -21,23 +24,23 @@ count_word_value labels v [] = refl
 count_word_value labels v (l ∷ w) = count_word_value labels v w
 
 -- a count joined with those of more flows
-count_joined : (labels : ℕ) {A : Type 0} (c : A → ℕ) → ((a : A) → c a ≡ 1) → (v : ℕ) (fs : List A) → v ≤ 4294967295 → join_of (flow_count labels) v (map c fs) ≡ min (v + length fs) 4294967295
+count_joined : (labels : ℕ) {A : Type 0} (c : A → ℕ) → ((a : A) → c a ≡ 1) → (v : ℕ) (fs : List A) → v ≤ most_flows → join_of (flow_count labels) v (map c fs) ≡ min (v + length fs) most_flows
 count_joined labels c one v [] h = omega arith
-count_joined labels c one v (f ∷ fs) h = count_joined labels c one (min (v + c f) 4294967295) fs (omega arith) ∙ (let e = one f in omega arith)
+count_joined labels c one v (f ∷ fs) h = count_joined labels c one (min (v + c f) most_flows) fs (omega arith) ∙ (let e = one f in omega arith)
 
-flows_counted : (labels : ℕ) → (0 < labels) × (labels ≤ 64) → AtMarks (flow_count labels) Counted
+flows_counted : (labels : ℕ) → (0 < labels) × (labels ≤ most_labels) → AtMarks (flow_count labels) Counted
 flows_counted labels in_range n k limit cs u i l e =
     let m = flow_count labels in
-    let v = valued m IsCount (flow_count_lawful labels in_range) n k limit cs u i l e in
+    let v = valued m IsFlowCount (flow_count_lawful labels in_range) n k limit cs u i l e in
     let ev = accepted_events m n k limit cs in
     let one = count_word_value labels 1 (word ev v.flow) in
-    let is : v.answered.value ≡ min (length (v.flow ∷ v.flows)) 4294967295 =
+    let is : v.answered.value ≡ min (length (v.flow ∷ v.flows)) most_flows =
     v.value_is
     ∙ count_joined labels (λ f. word_value m (word ev f)) (λ f. count_word_value labels 1 (word ev f)) (word_value m (word ev v.flow)) v.flows (omega arith)
     ∙ omega arith in
     (v, (length (v.flow ∷ v.flows), (v.flow ∷ v.flows, v.all, refl), is))
 
-pub marks_counted : (labels : ℕ) → (0 < labels) × (labels ≤ 64) → MarksCounted (flow_count labels)
+pub marks_counted : (labels : ℕ) → (0 < labels) × (labels ≤ most_labels) → MarksCounted (flow_count labels)
 marks_counted labels in_range = at_answers (flow_count labels) Counted (flows_counted labels in_range)
 
 -- r has the least shortest and the greatest longest number of v and of what c makes of the list
@@ -86,7 +89,7 @@ module _ (labels : ℕ) where
       }
 
   -- along a word of labels each end grows by the number of the word's labels
-  span_word_value : (a b : ℕ) (w : Word) → a ≤ 65535 → b ≤ 65535 → Spelled (span labels) w → word_value_from (span labels) (lengths a b) w ≡ lengths (min (a + length w) 65535) (min (b + length w) 65535)
+  span_word_value : (a b : ℕ) (w : Word) → a ≤ most_length → b ≤ most_length → Spelled (span labels) w → word_value_from (span labels) (lengths a b) w ≡ lengths (min (a + length w) most_length) (min (b + length w) most_length)
   span_word_value a b [] ha hb ls = ap₂ lengths (omega arith) (omega arith)
   span_word_value a b (l ∷ w) ha hb ls = rw (lt-ltb l labels ls.0) (span_word_value (longer a) (longer b) w (omega arith) (omega arith) ls.1 ∙ ap₂ lengths (omega arith) (omega arith))
 
@@ -95,16 +98,16 @@ module _ (labels : ℕ) where
     along f = word_value (span labels) (word ev f)
 
     -- along a longest flow both lengths are the number of its marks
-    along_is : (f : List Position) → Longest ev u i f → along f ≡ lengths (min (length f) 65535) (min (length f) 65535)
+    along_is : (f : List Position) → Longest ev u i f → along f ≡ lengths (min (length f) most_length) (min (length f) most_length)
     along_is f h =
         let marks : length (word ev f) ≡ length f = length-map f (letter_at ev) in
         span_word_value 0 0 (word ev f) (omega arith) (omega arith) (spelled f h)
         ∙ ap₂ lengths (omega arith) (omega arith)
 
-    low_is : (f : List Position) → Longest ev u i f → (along f).shortest ≡ min (length f) 65535
+    low_is : (f : List Position) → Longest ev u i f → (along f).shortest ≡ min (length f) most_length
     low_is f h = ap (λ (e : Lengths). e.shortest) (along_is f h)
 
-    high_is : (f : List Position) → Longest ev u i f → (along f).longest ≡ min (length f) 65535
+    high_is : (f : List Position) → Longest ev u i f → (along f).longest ≡ min (length f) most_length
     high_is f h = ap (λ (e : Lengths). e.longest) (along_is f h)
 
     spanned : (f : List Position) (fs : List (List Position)) → Exactly (Longest ev u i) (f ∷ fs) → Spanned ev u i (join_over (span labels) ev f fs)
@@ -124,14 +127,14 @@ module _ (labels : ℕ) where
           none_longer = λ g h. (let is = high_is g h in let high : (along g).longest ≤ r.longest = ⊎_elim (λ e. subst (λ (a : List Position). (along a).longest ≤ r.longest) (sym e) x.high_first) (x.high_rest g) (all.complete g h) in omega arith);
         }
 
-  flows_spanned : (0 < labels) × (labels ≤ 64) → AtMarks (span labels) Spanned
+  flows_spanned : (0 < labels) × (labels ≤ most_labels) → AtMarks (span labels) Spanned
   flows_spanned in_range n k limit cs u i l e =
-      let admits = λ (v : Lengths). (v.shortest ≤ v.longest) × (v.longest ≤ 65535) in
+      let admits = λ (v : Lengths). (v.shortest ≤ v.longest) × (v.longest ≤ most_length) in
       let laws = span_lawful labels in_range in
       let v = valued (span labels) admits laws n k limit cs u i l e in
       let ev = accepted_events (span labels) n k limit cs in
       let rg = ranged (span labels) admits laws n k limit cs in
       (v, subst (Spanned ev u i) (sym v.value_is) (spanned ev u i (λ f h. flow_spelled (span labels) n k limit ev rg u i f h.0 h.1) v.flow v.flows v.all))
 
-  pub marks_spanned : (0 < labels) × (labels ≤ 64) → MarksSpanned (span labels)
+  pub marks_spanned : (0 < labels) × (labels ≤ most_labels) → MarksSpanned (span labels)
   marks_spanned in_range = at_answers (span labels) Spanned (flows_spanned in_range)

@@ -1,4 +1,6 @@
 -- Joins over lists of flows that have the last mark in front.
+-- A list may be empty here, so a join is an option. It does not care for the order of the list, since a join commutes and associates; and to add a
+-- mark to every flow is to step the join, since a step goes through joins.
 use Rattle.std.proofs.Common.{◌≡◌, List, [], ◌∷◌, ◌++◌, map, reverse, Some, None, Option, sym, refl, ap, ◌∙◌}
 use mathlib.Core.List.{reverse-cons}
 use Rattle.std.specs.Option.{IfSome, option_map}
@@ -8,7 +10,7 @@ use Rattle.history.specs.Events.{Events, Position}
 use Rattle.history.specs.Flows.{letter_at, word}
 use Rattle.history.proofs.Promises.{exactly_same}
 use Rattle.measures.specs.Words.{Letter}
-use Rattle.measures.specs.Measures.{Meaning, Lawful, Fits, word_value, join_of}
+use Rattle.measures.specs.Measures.{Meaning, Lawful, IsLetterOf, word_value, join_of}
 use Rattle.measures.specs.Worths.{plus}
 use Rattle.measures.proofs.WordValueFacts.{word_value_push}
 
@@ -48,7 +50,7 @@ module _ {V : Type 0} (m : Meaning V) (admits : V → Type 0) (laws : Lawful m a
   plus_comm (Some x) None p q = refl
   plus_comm (Some x) (Some y) p q = ap Some (laws.commutes x y p q)
 
-  plus_step : (l : Letter) → Fits m l → (x y : Option V) → IfSome x admits → IfSome y admits
+  plus_step : (l : Letter) → IsLetterOf m l → (x y : Option V) → IfSome x admits → IfSome y admits
       → option_map (λ a. m.step a l) (plus m x y) ≡ plus m (option_map (λ a. m.step a l) x) (option_map (λ a. m.step a l) y)
   plus_step l h None y p q = refl
   plus_step l h (Some x) None p q = refl
@@ -69,7 +71,7 @@ module _ {V : Type 0} (m : Meaning V) (admits : V → Type 0) (laws : Lawful m a
       ∙ sym (plus_assoc (Some (word_value_back m ev f)) (total m ev fs) (total m ev gs) (word_value_back_admitted f) (total_admitted fs) (total_admitted gs))
 
   -- one more mark at the end of every flow
-  pub total_longer : (x : Position) → Fits m (letter_at ev x) → (fs : List (List Position)) → total m ev (map (λ f. x ∷ f) fs) ≡ option_map (λ a. m.step a (letter_at ev x)) (total m ev fs)
+  pub total_longer : (x : Position) → IsLetterOf m (letter_at ev x) → (fs : List (List Position)) → total m ev (map (λ f. x ∷ f) fs) ≡ option_map (λ a. m.step a (letter_at ev x)) (total m ev fs)
   total_longer x h [] = refl
   total_longer x h (f ∷ fs) =
       ap (plus m (Some (word_value_back m ev (x ∷ f)))) (total_longer x h fs)

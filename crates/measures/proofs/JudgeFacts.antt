@@ -1,4 +1,6 @@
 -- A judge's two answers tell of the longest flows.
+-- The value of a mark is a join over a list of their values. An answer that goes through joins by or is yes of such a join exactly when it is yes of
+-- one of the joined, by induction over the list, and one that goes through them by and when it is yes of all; of one flow the judge decides.
 use Rattle.std.proofs.Common.{◌≡◌, ℕ, Bool, true, ◌&&◌, ◌||◌, ◌⊎◌, List, [], ◌∷◌, map, Decides, sym, refl, ap, ◌∙◌, subst, inl, inr, ⊎_elim}
 use Rattle.std.proofs.lemmas.Bool.Decides.{Decides-at}
 use Rattle.std.proofs.lemmas.Bool.{or_cases, or_left, or_right, and_parts, and_from}
@@ -7,11 +9,11 @@ use Rattle.history.specs.Events.{Events, Position}
 use Rattle.history.specs.Flows.{Opens, Linked, Longest, letter_at, word}
 use Rattle.history.specs.Runs.{Ranged}
 use Rattle.measures.specs.Words.{Word}
-use Rattle.measures.specs.Measures.{Meaning, Lawful, Fits, Spelled, word_value_from, word_value, join_of}
+use Rattle.measures.specs.Measures.{Meaning, Lawful, IsLetterOf, Spelled, word_value_from, word_value, join_of}
 use Rattle.measures.specs.Judges.{Judges}
 use Rattle.measures.specs.Worths.{measured_size}
 use Rattle.measures.specs.Laws.{join_over, accepted_events, MarksJudged}
-use Rattle.measures.proofs.WorthFacts.{mark_fits}
+use Rattle.measures.proofs.WorthFacts.{mark_is_letter}
 use Rattle.measures.proofs.ValueFacts.{ranged, valued}
 
 module _ {V : Type 0} (m : Meaning V) (admits : V → Type 0) (laws : Lawful m admits) where
@@ -61,11 +63,11 @@ module _ {V : Type 0} (m : Meaning V) (admits : V → Type 0) (laws : Lawful m a
 -- the word of a longest flow is spelled in the measure's letters
 pub flow_spelled : {V : Type 0} (m : Meaning V) (n k limit : ℕ) (ev : Events) → Ranged ev (measured_size m n k limit) → (u i : ℕ) (f : List Position) → Opens ev f → Linked ev f → Spelled m (word ev f)
 flow_spelled m n k limit ev rg u i [] o l = tt
-flow_spelled m n k limit ev rg u i (x ∷ f) o l = spelled x f (mark_fits m n k limit ev rg x.0 x.1 o.0) l
+flow_spelled m n k limit ev rg u i (x ∷ f) o l = spelled x f (mark_is_letter m n k limit ev rg x.0 x.1 o.0) l
   where
-    spelled : (x : Position) (f : List Position) → Fits m (letter_at ev x) → Linked ev (x ∷ f) → Spelled m (word ev (x ∷ f))
+    spelled : (x : Position) (f : List Position) → IsLetterOf m (letter_at ev x) → Linked ev (x ∷ f) → Spelled m (word ev (x ∷ f))
     spelled x [] h l = (h, tt)
-    spelled x (y ∷ f) h l = (h, spelled y f (mark_fits m n k limit ev rg y.0 y.1 l.0.1) l.1)
+    spelled x (y ∷ f) h l = (h, spelled y f (mark_is_letter m n k limit ev rg y.0 y.1 l.0.1) l.1)
 
 module _ {V : Type 0} (m : Meaning V) (admits : V → Type 0) (laws : Lawful m admits) (n k limit : ℕ) (ev : Events) (rg : Ranged ev (measured_size m n k limit)) (u i : ℕ) (answer : V → Bool) (good : Word → Type 0) where
   -- of one longest flow the answer says whether it is good

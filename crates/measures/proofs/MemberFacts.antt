@@ -12,11 +12,11 @@ use Rattle.measures.specs.Calls.{flagged_by}
 
 module _ {V : Type 0} (m : Meaning V) where
   -- cells with no flag add nothing
-  pub gathered_idle : (r : ℕ → Cell V) (i n : ℕ) → i ≤ n → ((j : ℕ) → i ≤ j → j < n → (r j).flag ≡ false) → flagged_join m r n ≡ flagged_join m r i
-  gathered_idle r i zero h none = let e : 0 ≡ i = omega arith in ap (flagged_join m r) e
-  gathered_idle r i (suc n) h none = elim (cases_lt n i) [
+  pub flagged_join_idle : (r : ℕ → Cell V) (i n : ℕ) → i ≤ n → ((j : ℕ) → i ≤ j → j < n → (r j).flag ≡ false) → flagged_join m r n ≡ flagged_join m r i
+  flagged_join_idle r i zero h none = let e : 0 ≡ i = omega arith in ap (flagged_join m r) e
+  flagged_join_idle r i (suc n) h none = elim (cases_lt n i) [
     | inl l ↦ let e : suc n ≡ i = omega arith in ap (flagged_join m r) e
-    | inr g ↦ cond-false (r n).flag _ _ (none n g (omega arith)) ∙ gathered_idle r i n g (λ j a b. none j a (omega arith))
+    | inr g ↦ cond-false (r n).flag _ _ (none n g (omega arith)) ∙ flagged_join_idle r i n g (λ j a b. none j a (omega arith))
   ]
 
   -- The members of a set below a place are gathered, and the rest has the others.
@@ -39,7 +39,7 @@ module _ {V : Type 0} (m : Meaning V) where
             | inl l ↦ elim (cases_bit rest p) [ inl z ↦ grind (arith, nat_tests) | inr i ↦ absurd (omega (arith, lowest p i)) ]
             | inr g ↦ elim (cases_eq p q) [ inl d ↦ grind (arith, nat_tests) | inr d ↦ grind (arith, nat_tests) ]
           ];
-      sum = e ∙ ap (λ (o : Option V). plus m o (Some (get_or values q m.start))) (s.sum ∙ sym (gathered_idle (flagged_by set m.start values) s.place q (grind (arith, nat_tests)) none)) ∙ sym (cond-true (has set q) _ _ (grind (arith, nat_tests)));
+      sum = e ∙ ap (λ (o : Option V). plus m o (Some (get_or values q m.start))) (s.sum ∙ sym (flagged_join_idle (flagged_by set m.start values) s.place q (grind (arith, nat_tests)) none)) ∙ sym (cond-true (has set q) _ _ (grind (arith, nat_tests)));
     }
       where
         none : (j : ℕ) → s.place ≤ j → j < q → has set j ≡ false
@@ -50,8 +50,8 @@ module _ {V : Type 0} (m : Meaning V) where
     -- once nothing is left, all members are gathered
     pub so_far_all : rest ≡ 0 → (n : ℕ) → set < 2 ^ n → all ≡ flagged_join m (flagged_by set m.start values) n
     so_far_all z n small = elim (cases_lt s.place n) [
-      | inl l ↦ s.sum ∙ sym (gathered_idle (flagged_by set m.start values) s.place n (omega arith) none)
-      | inr g ↦ s.sum ∙ gathered_idle (flagged_by set m.start values) n s.place g past
+      | inl l ↦ s.sum ∙ sym (flagged_join_idle (flagged_by set m.start values) s.place n (omega arith) none)
+      | inr g ↦ s.sum ∙ flagged_join_idle (flagged_by set m.start values) n s.place g past
     ]
       where
         none : (j : ℕ) → s.place ≤ j → j < n → has set j ≡ false

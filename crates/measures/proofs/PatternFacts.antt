@@ -7,6 +7,7 @@ use Rattle.std.proofs.lemmas.Bool.Decides.{same_from_decides, Decides-eqb}
 use Rattle.std.specs.List.{AllByRecursion}
 use Rattle.bitset.specs.Sets.{bit, Member, has, meets, within}
 use Rattle.bitset.proofs.Promises.{member_or, or_member_left, or_member_right}
+use Rattle.measures.specs.Limits.{most_entries, most_labels}
 use Rattle.measures.specs.Words.{Letter, Word, Labels}
 use Rattle.measures.specs.Measures.{word_value, join_of}
 use Rattle.measures.specs.Automata.{next, leads, state_sets}
@@ -21,13 +22,13 @@ with_zeros_at n t i = grind (arith, common_steps)
 pub with_zeros_complete : (n bound count : ℕ) (t table : List ℕ) → table ≡ with_zeros n t → ((k : ℕ) → k < count → get_or t k 0 < bound) → (k : ℕ) → k < count → get_or table k 0 < bound
 with_zeros_complete n bound count t table is below k h = rw (is, with_zeros_at n t k) (below k h)
 
-module _ (b : List ℕ) (states labels start finals : ℕ) (table : List ℕ) (parts : PatternOf b states labels start finals table) (in_range : (0 < labels) × (labels ≤ 64)) (begins : start < states) (complete : (k : ℕ) → k < states * labels → get_or table k 0 < states) where
+module _ (b : List ℕ) (states labels start finals : ℕ) (table : List ℕ) (parts : PatternOf b states labels start finals table) (in_range : (0 < labels) × (labels ≤ most_labels)) (begins : start < states) (complete : (k : ℕ) → k < states * labels → get_or table k 0 < states) where
   state_read : (w : Word) → leads (next labels table) start w ≡ state_after b w
   state_read w =
       ap (λ (d : Letter → ℕ → ℕ). leads d start w)
       (fun_ext (λ l. fun_ext (λ q.
       ap (λ (t : List ℕ). get_or t (q * labels + l) 0) parts.table_is
-      ∙ with_zeros_at 4096 (table_in b) (q * labels + l)
+      ∙ with_zeros_at most_entries (table_in b) (q * labels + l)
       ∙ ap (λ (a : ℕ). get_or (table_in b) (q * a + l) 0) parts.labels_are)))
       ∙ ap (λ (q : ℕ). leads (next (labels_in b) (table_in b)) q w) parts.start_is
 

@@ -1,7 +1,7 @@
 -- The theorems of this crate that other crates may cite: runs under a measure, the judges of patterns and relabellings, and tables
 -- and calls as they are gone through.
-use Rattle.std.specs.Prelude.{◌≡◌, ℕ, ◌+◌, ◌*◌, ◌^◌, ◌<◌, ◌≤◌, Bool, true, ◌&&◌, ◌||◌, ◌↔◌, List, ◌∷◌, length, None, Decides, IsTrue, bit_or}
-use Rattle.std.proofs.Common.{get_or, take}
+use Rattle.std.specs.Prelude.{◌≡◌, ℕ, ◌*◌, ◌^◌, ◌<◌, ◌≤◌, Bool, true, ◌&&◌, ◌||◌, ◌↔◌, List, ◌∷◌, length, None, Decides, IsTrue, bit_or}
+use Rattle.std.proofs.Common.{get_or}
 use Rattle.bitset.specs.Sets.{has, meets, within}
 use Rattle.causality.specs.Boards.{Memory, SameBeyond, SameLoans, has_room}
 use Rattle.history.specs.Counting.{Exactly}
@@ -14,12 +14,12 @@ use Rattle.measures.specs.Automata.{state_sets}
 use Rattle.measures.specs.Formats.{PatternOf, labels_in, with_zeros, first_over}
 use Rattle.measures.specs.Judges.{Judges}
 use Rattle.measures.specs.Laws.{join_over, accepted_events, MarksJudged, LawOfRuns}
+use Rattle.measures.specs.Limits.{most_labels}
 use Rattle.measures.specs.Measures.{Meaning, Lawful, Spelled, word_value}
 use Rattle.measures.specs.Relabellings.{translation, relabelling}
-use Rattle.measures.specs.Words.{Letter, Word, Labels, letter_of}
+use Rattle.measures.specs.Words.{Letter, Word, Labels}
 use Rattle.measures.specs.Worths.{measured_size}
 use Rattle.measures.proofs.AcceptanceFacts
-use Rattle.measures.proofs.WordValueFacts
 use Rattle.measures.proofs.JudgeFacts
 use Rattle.measures.proofs.PlayFacts
 use Rattle.measures.proofs.ReachFacts
@@ -27,10 +27,14 @@ use Rattle.measures.proofs.TableFacts
 use Rattle.measures.proofs.PatternFacts
 use Rattle.measures.proofs.TranslationFacts
 use Rattle.measures.proofs.ValueFacts
+-- The sets of states of an automaton whose table is complete are a lawful measure, on the non-empty sets.
+pub use Rattle.measures.specs.StateSetLaws.{state_sets_lawful}
+-- A relabelled measure keeps the laws where the inner one does.
+pub use Rattle.measures.specs.RelabellingLaws.{relabelling_lawful}
 
 -- ---- Runs under a measure
 
--- Under every lawful measure each accepted mark was told the join along the longest flows that end there, and nothing depends on the
+-- Under every lawful measure each accepted mark was answered the join along the longest flows that end there, and nothing depends on the
 -- order in which units act.
 pub law_of_runs : {V : Type 0} (m : Meaning V) (admits : V → Type 0) → Lawful m admits → LawOfRuns m
 law_of_runs m admits laws = ValueFacts.law_of_runs m admits laws
@@ -51,11 +55,6 @@ pub some_decided : {V : Type 0} (m : Meaning V) (admits : V → Type 0) → Lawf
     → Judges ◌||◌ m admits answer good → Decides (answer (join_over m ev f fs)) ((g : List Position) × Longest ev u i g × good (word ev g))
 some_decided m admits laws n k limit ev rg u i answer good f fs all = JudgeFacts.some_decided m admits laws n k limit ev rg u i answer good f fs all
 
--- The value of the first i letters of a word, stepped by the next, is the value of one letter more.
-pub word_value_take_more : {V : Type 0} (m : Meaning V) (v x : V) (w : Word) (i : ℕ) → i < length w → v ≡ word_value m (take i w)
-    → x ≡ m.step v (get_or w i (letter_of 0 0)) → x ≡ word_value m (take (i + 1) w)
-word_value_take_more m v x w i = WordValueFacts.word_value_take_more m v x w i
-
 -- ---- Judges of patterns and of relabellings
 
 -- A union of two sets has a member in common with f exactly when one of them has.
@@ -68,7 +67,7 @@ within_or f a b = AcceptanceFacts.within_or f a b
 
 -- What follows is of an automaton whose parts the bytes b state, and whose table is complete.
 module _ (b : List ℕ) (states labels start finals : ℕ) (table : List ℕ) (parts : PatternOf b states labels start finals table)
-    (in_range : (0 < labels) × (labels ≤ 64)) (begins : start < states) (complete : (k : ℕ) → k < states * labels → get_or table k 0 < states) where
+    (in_range : (0 < labels) × (labels ≤ most_labels)) (begins : start < states) (complete : (k : ℕ) → k < states * labels → get_or table k 0 < states) where
   -- Its sets of states recognize the words that the bytes accept.
   pub recognizes : Recognizes b (state_sets states labels start table) (λ set. meets set finals) (λ set. within set finals)
   recognizes = PatternFacts.recognizes b states labels start finals table parts in_range begins complete

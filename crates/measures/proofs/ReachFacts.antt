@@ -1,8 +1,9 @@
--- The set told at a mark holds the states to which the words of the longest flows lead.
+-- The set answered at a mark holds the states to which the words of the longest flows lead.
 use Rattle.std.proofs.Common.{◌≡◌, ℕ, ◌*◌, ◌^◌, ◌<◌, ◌≤◌, Bool, ◌||◌, ◌↔◌, List, ◌∷◌, get_or, sym, ap, ◌∙◌, subst, IsTrue}
 use Rattle.std.proofs.lemmas.Bool.Decides.{Decides-at, Decides-like, Decides-eqb}
 use Rattle.bitset.specs.Sets.{bit, has, meets, within}
 use Rattle.bitset.proofs.Promises.{has_or}
+use Rattle.measures.specs.Limits.{most_labels}
 use Rattle.measures.specs.Words.{Letter, Word, Labels}
 use Rattle.measures.specs.Measures.{Spelled, word_value}
 use Rattle.measures.specs.Judges.{Judges}
@@ -17,7 +18,7 @@ use Rattle.measures.proofs.ValueFacts.{ranged}
 use Rattle.measures.proofs.JudgeFacts.{some_decided, marks_judged}
 use Rattle.measures.proofs.PatternFacts.{member, recognizes}
 
-module _ (b : List ℕ) (states labels start finals : ℕ) (table : List ℕ) (parts : PatternOf b states labels start finals table) (in_range : (0 < labels) × (labels ≤ 64)) (begins : start < states) (complete : (k : ℕ) → k < states * labels → get_or table k 0 < states) where
+module _ (b : List ℕ) (states labels start finals : ℕ) (table : List ℕ) (parts : PatternOf b states labels start finals table) (in_range : (0 < labels) × (labels ≤ most_labels)) (begins : start < states) (complete : (k : ℕ) → k < states * labels → get_or table k 0 < states) where
   there : (w : Word) → Labels labels w → Labels (labels_in b) w
   there w ls = subst (λ (n : ℕ). Labels n w) parts.labels_are ls
 

@@ -20,7 +20,7 @@ module _ {V : Type 0} (M : Payload V) (z : Size) where
   outcomes_append h [] ds = refl
   outcomes_append h (c ∷ cs) ds = ap (λ (l : List (Result (Answer V) Refusal)). outcome M z h.contents c ∷ l) (outcomes_append (history_after M z h c) cs ds)
 
-  -- one call more: the state after it, and its outcome at the end
+  -- one call more: the contents after it, and its outcome at the end
   pub state_push : (cs : List Call) (c : Call) → (run M z (cs ++ c ∷ [])).contents ≡ next_contents M z (run M z cs).contents c
   state_push cs c = ap (λ (h : History V). h.contents) (run_append (new_history M) cs (c ∷ []))
 

@@ -1,6 +1,6 @@
 -- Each accepted mark's value is the join along the longest flows that end there.
 -- What is right for a mark is the join over the flows to it with the last mark in front. A row that shows such values makes one for the
--- mark, so by the promise on values each accepted mark was told one; and these flows turned round are the longest flows, whatever
+-- mark, so by the promise on values each accepted mark was answered one; and these flows turned round are the longest flows, whatever
 -- their order in a list.
 use Rattle.std.proofs.Common.{◌≡◌, ℕ, List, [], ◌∷◌, map, reverse, Some, sym, ap, ◌∙◌, ap₂}
 use Rattle.std.proofs.Math.Path.{fun_ext}
@@ -54,7 +54,7 @@ module _ {V : Type 0} (m : Meaning V) (admits : V → Type 0) (laws : Lawful m a
   pub ranged : Ranged (accepted_events m n k limit cs) (measured_size m n k limit)
   ranged = marks_ranged (measured_payload m n) (measured_size m n k limit) cs
 
-  -- each accepted mark was told the join over the flows to it
+  -- each accepted mark was answered the join over the flows to it
   mark_tally : (u i l : ℕ) → accepted_events m n k limit cs u i ≡ Some (Mark l)
       → (a : Answered (measured_payload m n) (measured_size m n k limit) cs u i) × Tally m (accepted_events m n k limit cs) u i a.value
   mark_tally =

@@ -1,5 +1,5 @@
 -- What the laws of a measure say along words and over lists of values.
-use Rattle.std.proofs.Common.{◌≡◌, ℕ, ◌+◌, ◌<◌, [], ◌∷◌, ◌++◌, map, length, get_or, take, sym, refl, ap, ◌∙◌}
+use Rattle.std.proofs.Common.{◌≡◌, ℕ, ◌+◌, ◌<◌, [], ◌∷◌, ◌++◌, map, length, get_or, take, refl, ap, ◌∙◌}
 use Rattle.std.proofs.lemmas.List.{take_more}
 use Rattle.measures.specs.Words.{Letter, Word, letter_of}
 use Rattle.measures.specs.Measures.{Meaning, Spelled, Lawful, word_value_from, word_value, join_of, ThroughJoins}
@@ -12,12 +12,6 @@ module _ {V : Type 0} (m : Meaning V) where
   -- the value of the first letters of a word, and of one letter more
   pub word_value_more : (w : Word) (i : ℕ) → i < length w → word_value m (take (i + 1) w) ≡ m.step (word_value m (take i w)) (get_or w i (letter_of 0 0))
   word_value_more w i h = ap (word_value m) (take_more w i (letter_of 0 0) h) ∙ word_value_push m.start (take i w) (get_or w i (letter_of 0 0))
-
-  pub word_value_take_more : (v x : V) (w : Word) (i : ℕ) → i < length w → v ≡ word_value m (take i w) → x ≡ m.step v (get_or w i (letter_of 0 0)) → x ≡ word_value m (take (i + 1) w)
-  word_value_take_more v x w i h before step =
-      step
-      ∙ ap (λ (y : V). m.step y (get_or w i (letter_of 0 0))) before
-      ∙ sym (word_value_more w i h)
 
   module _ (admits : V → Type 0) (laws : Lawful m admits) where
     pub word_value_join : (a b : V) (w : Word) → admits a → admits b → Spelled m w → word_value_from m (m.join a b) w ≡ m.join (word_value_from m a w) (word_value_from m b w)

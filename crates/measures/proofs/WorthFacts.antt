@@ -16,7 +16,7 @@ use Rattle.history.specs.Predecessors.{ShowsPredecessors}
 use Rattle.history.specs.Runs.{Ranged}
 use Rattle.history.proofs.Promises.{exactly_one, exactly_map, exactly_like}
 use Rattle.measures.specs.Words.{Letter, letter_of}
-use Rattle.measures.specs.Measures.{Meaning, Lawful, Fits}
+use Rattle.measures.specs.Measures.{Meaning, Lawful, IsLetterOf}
 use Rattle.measures.specs.Worths.{plus, flagged_join, worth, measured_size}
 use Rattle.measures.proofs.BackwardFlows.{Flow, flow_longer}
 use Rattle.measures.proofs.JoinFacts.{total, word_value_back, total_longer}
@@ -30,8 +30,8 @@ stepped : {V : Type 0} (m : Meaning V) (c l : Letter) → c ≡ l → (o t : Opt
 stepped m c l d o t s y x = rw (s, x, d) refl
 
 -- the letter of an accepted mark is the measure's
-pub mark_fits : {V : Type 0} (m : Meaning V) (n k limit : ℕ) (ev : Events) → Ranged ev (measured_size m n k limit) → (u i : ℕ) → IsMark ev u i → Fits m (letter_at ev (u, i))
-mark_fits m n k limit ev rg u i (l, e) = subst (Fits m) (sym (ap (letter u) e)) (ltb-true (letter_of u l) m.labels (rg.label u i l e))
+pub mark_is_letter : {V : Type 0} (m : Meaning V) (n k limit : ℕ) (ev : Events) → Ranged ev (measured_size m n k limit) → (u i : ℕ) → IsMark ev u i → IsLetterOf m (letter_at ev (u, i))
+mark_is_letter m n k limit ev rg u i (l, e) = subst (IsLetterOf m) (sym (ap (letter u) e)) (ltb-true (letter_of u l) m.labels (rg.label u i l e))
 
 module _ {V : Type 0} (ev : Events) (m : Meaning V) (admits : V → Type 0) (laws : Lawful m admits) (n k limit : ℕ) (rg : Ranged ev (measured_size m n k limit))
     (u i l : ℕ) (r : ℕ → Cell V) (e : ev u i ≡ Some (Mark l)) (shown : ShowsPredecessors ev (Tally m ev) u i r) where
@@ -67,7 +67,7 @@ module _ {V : Type 0} (ev : Events) (m : Meaning V) (admits : V → Type 0) (law
         led
         (map (λ f. (u, i) ∷ f) (g ∷ gs))
         (exactly_map (λ f. (u, i) ∷ f) (λ a b x. cc) (g ∷ gs) all),
-    total_longer m admits laws ev (u, i) (mark_fits m n k limit ev rg u i (l, e)) (g ∷ gs)
+    total_longer m admits laws ev (u, i) (mark_is_letter m n k limit ev rg u i (l, e)) (g ∷ gs)
         ∙ stepped m (letter_at ev (u, i)) (letter_of u l) (ap (letter u) e) (flagged_join m r n) (total m ev (g ∷ gs)) sum _ (plus_some m (word_value_back m ev g) (total m ev gs)).1,
   )
     where

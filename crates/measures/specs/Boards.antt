@@ -83,11 +83,13 @@ pub record LawOfBoards {V : Type 0} (m : Meaning V) (admits : V → Type 0) : Ty
   pub shows : (n k : ℕ) → EachShows m.start n k
   -- a board just made has been handed no call, and each call that follows the rules is one more
   pub made : (n k : ℕ) (old new : Memory V) → Makes (measured_payload m n) n k None old new → Played m n k [] [] new
-  pub called : (n k : ℕ) (cs : List Call) (xs : List (Result (Answer V) Refusal)) (old new : Memory V) (c : Call) (x : Result (Answer V) Refusal)
+  pub called : (n k : ℕ) (cs : List Call) (xs : List (Result (Answer V) Refusal))
+      (old new : Memory V) (c : Call) (x : Result (Answer V) Refusal)
       → Played m n k cs xs old → Obeys (setup (measured_rules m) n k) c old new x → has_room n k old ≡ true
       → Played m n k (cs ++ c ∷ []) (xs ++ x ∷ []) new
   -- a call whose memory is too short is refused, and the board stands as it did
-  pub short : (n k : ℕ) (cs : List Call) (xs : List (Result (Answer V) Refusal)) (old new : Memory V) (c : Call) (x : Result (Answer V) Refusal)
+  pub short : (n k : ℕ) (cs : List Call) (xs : List (Result (Answer V) Refusal))
+      (old new : Memory V) (c : Call) (x : Result (Answer V) Refusal)
       → Played m n k cs xs old → Obeys (setup (measured_rules m) n k) c old new x → has_room n k old ≡ false
       → (x ≡ Err MemoryTooShort) × Played m n k cs xs new
   -- the accepted calls are those that were answered with no refusal

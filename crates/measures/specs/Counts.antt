@@ -6,7 +6,7 @@ use Rattle.history.specs.Events.{Events}
 use Rattle.history.specs.Flows.{Longest}
 use Rattle.measures.specs.declared.counts.FlowCount.{FlowCount}
 use Rattle.measures.specs.Boards.{AtAnswers}
-use Rattle.measures.specs.Limits.{most_flows}
+use Rattle.measures.specs.Limits.{most_flows, most_labels}
 use Rattle.measures.specs.Measures.{Meaning, Lawful}
 
 -- The flow count over n labels: 1 for each flow, added up to at most 4,294,967,295.
@@ -14,18 +14,18 @@ abbrev pub flow_count : ℕ → Meaning ℕ
 flow_count n = record { labels = n; start = 1; step = λ v _. v; join = λ a b. min (a + b) most_flows }
 
 -- a number up to the cap
-abbrev pub IsCount : ℕ → Type 0
-IsCount v = v ≤ most_flows
+abbrev pub IsFlowCount : ℕ → Type 0
+IsFlowCount v = v ≤ most_flows
 
 -- it keeps the laws on the numbers up to its cap
-pub flow_count_lawful : (n : ℕ) → (0 < n) × (n ≤ 64) → Lawful (flow_count n) IsCount
+pub flow_count_lawful : (n : ℕ) → (0 < n) × (n ≤ most_labels) → Lawful (flow_count n) IsFlowCount
 flow_count_lawful n in_range = search rules
 
 -- the flow count as a measure
 abbrev pub count_meaning : FlowCount → Meaning ℕ
 count_meaning m = flow_count m.labels.number
 
-pub count_lawful : (m : FlowCount) → Lawful (count_meaning m) IsCount
+pub count_lawful : (m : FlowCount) → Lawful (count_meaning m) IsFlowCount
 count_lawful m = flow_count_lawful m.labels.number m.labels.in_range
 
 -- The value is the number of the longest flows that end at position i of unit u, up to the cap.

@@ -16,7 +16,7 @@ over_fault from None = None
 over_fault from (Some i) = Some (fault EntryTooLarge (from + i))
 
 -- What is wrong with a table of `count` entries below a bound that begins at the byte `from` of b:
--- bytes are missing, told at b's length, or an entry is too large, told at the first such byte.
+-- bytes are missing, met at b's length, or an entry is too large, met at the first such byte.
 abbrev pub table_fault : List ℕ → ℕ → ℕ → ℕ → Option Fault
 table_fault b from count bound =
     ask (nat_le (from + count) (length b)) (fault TableTooShort (length b))
@@ -100,9 +100,13 @@ relabelling_tag = 0x30
 abbrev pub relabelling_labels_in : List ℕ → ℕ → ℕ
 relabelling_labels_in b at = slice_index b (at + 1)
 
+-- the number of bytes before its entries
+abbrev pub relabelling_head_size : ℕ
+relabelling_head_size = 2
+
 -- the inner label of each
 abbrev pub entries_in : List ℕ → ℕ → List ℕ
-entries_in b at = take (relabelling_labels_in b at) (drop (at + 2) b)
+entries_in b at = take (relabelling_labels_in b at) (drop (at + relabelling_head_size) b)
 
 -- What is wrong with a relabelling's first two bytes.
 abbrev pub relabelling_head_fault : List ℕ → ℕ → Option Fault
@@ -114,4 +118,6 @@ relabelling_head_fault b at =
 
 -- What is wrong with the bytes of a relabelling to n inner labels.
 abbrev pub relabelling_fault : List ℕ → ℕ → ℕ → Option Fault
-relabelling_fault b at n = option_or (relabelling_head_fault b at) (table_fault b (at + 2) (relabelling_labels_in b at) n)
+relabelling_fault b at n =
+    option_or (relabelling_head_fault b at)
+    (table_fault b (at + relabelling_head_size) (relabelling_labels_in b at) n)

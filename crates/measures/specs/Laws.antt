@@ -38,7 +38,7 @@ abbrev pub MarksValued : {V : Type 0} → Meaning V → Type 0
 MarksValued m =
     (n k limit : ℕ) (cs : List Call) (u i l : ℕ) → accepted_events m n k limit cs u i ≡ Some (Mark l) → Valued m n k limit cs u i
 
--- The law of runs under a measure: what marks are told, and that nothing depends on the order in which units act.
+-- The law of runs under a measure: what marks are answered, and that nothing depends on the order in which units act.
 pub record LawOfRuns {V : Type 0} (m : Meaning V) : Type 0 where
   pub marks_valued : MarksValued m
   pub order_free : (n k limit : ℕ) (cs ds : List Call)

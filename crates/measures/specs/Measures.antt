@@ -12,8 +12,8 @@ pub record Meaning (V : Type 0) : Type 0 where
   pub join : V → V → V
 
 -- l is a letter of the measure: a label below its count
-abbrev pub Fits : {V : Type 0} → Meaning V → Letter → Type 0
-Fits m l = label_of l < m.labels
+abbrev pub IsLetterOf : {V : Type 0} → Meaning V → Letter → Type 0
+IsLetterOf m l = label_of l < m.labels
 
 -- whether a mark of unit u with label l has a letter of the measure
 abbrev pub fits : {V : Type 0} → Meaning V → ℕ → ℕ → Bool
@@ -30,10 +30,10 @@ pub record Lawful {V : Type 0} (m : Meaning V) (admits : V → Type 0) : Type 0 
   pub step_admitted : (a : V) (l : Letter) → admits a → admits (m.step a l)
   pub join_admitted : (a b : V) → admits a → admits b → admits (m.join a b)
   -- a letter that is not the measure's leaves the value
-  pub unlabelled : (a : V) (l : Letter) → (Fits m l → ⊥) → m.step a l ≡ a
+  pub unlabelled : (a : V) (l : Letter) → (IsLetterOf m l → ⊥) → m.step a l ≡ a
   pub commutes : (a b : V) → admits a → admits b → m.join a b ≡ m.join b a
   pub associates : (a b c : V) → admits a → admits b → admits c → m.join (m.join a b) c ≡ m.join a (m.join b c)
-  pub distributes : (a b : V) (l : Letter) → admits a → admits b → Fits m l
+  pub distributes : (a b : V) (l : Letter) → admits a → admits b → IsLetterOf m l
       → m.step (m.join a b) l ≡ m.join (m.step a l) (m.step b l)
 
 -- v stepped by each letter of a word in turn

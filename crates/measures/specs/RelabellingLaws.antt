@@ -3,6 +3,7 @@
 use Rattle.std.specs.Prelude.{ℕ, ◌<◌, ◌≤◌, List, nat_lt, slice_index}
 use Rattle.std.proofs.Common.{arith}
 use Rattle.std.proofs.lemmas.Bool.{lt-ltb, le-ltb, ltb-true, cond-false, cond_both}
+use Rattle.measures.specs.Limits.{most_labels}
 use Rattle.measures.specs.Words.{Letter}
 use Rattle.measures.specs.Measures.{Meaning, Lawful}
 use Rattle.measures.specs.declared.relabellings.Relabelling.{Relabelling}
@@ -14,7 +15,7 @@ module _ (entries : List ℕ) (n : ℕ) (some : 0 < n) where
 
 module _ {V : Type 0} (entries : List ℕ) (count : ℕ) (m : Meaning V) where
   -- the laws, from those of the inner measure alone
-  pub relabelling_lawful : (0 < count) × (count ≤ 64) → {admits : V → Type 0} → Lawful m admits → Lawful (relabelling entries count m) admits
+  pub relabelling_lawful : (0 < count) × (count ≤ most_labels) → {admits : V → Type 0} → Lawful m admits → Lawful (relabelling entries count m) admits
   relabelling_lawful in_range {admits} laws = record {
     label_range = in_range;
     start_admitted = laws.start_admitted;

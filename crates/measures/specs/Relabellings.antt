@@ -1,7 +1,7 @@
 -- Relabellings.
 use Rattle.std.specs.Prelude.{◌≡◌, ℕ, ◌+◌, if◌then◌else◌, List, map, nat_lt, slice_index}
 use Rattle.measures.specs.declared.relabellings.Relabelling.{Relabelling}
-use Rattle.measures.specs.Formats.{entries_in, relabelling_labels_in, with_zeros}
+use Rattle.measures.specs.Formats.{entries_in, relabelling_head_size, relabelling_labels_in, with_zeros}
 use Rattle.measures.specs.Limits.{most_labels}
 use Rattle.measures.specs.Measures.{Meaning}
 use Rattle.measures.specs.Words.{Letter, Word}
@@ -38,7 +38,7 @@ module _ {M V : Type 0} where
 
   -- the number of bytes that it was read from: the tag, the count, and an entry for each label
   abbrev pub relabelling_size : Relabelling M V → ℕ
-  relabelling_size r = 2 + r.table.count.number
+  relabelling_size r = relabelling_head_size + r.table.count.number
 
   -- The parts of a relabelling are the inner measure that it was made with, and those that the bytes b give from the byte `at` on.
   pub record IsRelabellingOf (b : List ℕ) (at : ℕ) (inner : M) (r : Relabelling M V) : Type 0 where

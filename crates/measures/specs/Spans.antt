@@ -6,7 +6,7 @@ use Rattle.history.specs.Flows.{Longest}
 use Rattle.measures.specs.declared.spans.Lengths.{Lengths}
 use Rattle.measures.specs.declared.spans.Span.{Span}
 use Rattle.measures.specs.Boards.{AtAnswers}
-use Rattle.measures.specs.Limits.{most_length}
+use Rattle.measures.specs.Limits.{most_labels, most_length}
 use Rattle.measures.specs.Measures.{Meaning, Lawful}
 use Rattle.measures.specs.Words.{Word}
 
@@ -32,7 +32,7 @@ abbrev pub AreLengths : Lengths → Type 0
 AreLengths v = (v.shortest ≤ v.longest) × (v.longest ≤ most_length)
 
 -- it keeps the laws on such pairs
-pub span_lawful : (n : ℕ) → (0 < n) × (n ≤ 64) → Lawful (span n) AreLengths
+pub span_lawful : (n : ℕ) → (0 < n) × (n ≤ most_labels) → Lawful (span n) AreLengths
 span_lawful n in_range = search rules
 
 module _ (m : Span) where

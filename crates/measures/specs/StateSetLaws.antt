@@ -6,11 +6,12 @@ use Rattle.std.proofs.Math.Pow.{pow-lt}
 use Rattle.std.proofs.lemmas.Nat.{mul-add-lt, or_comm, or_lt}
 use Rattle.std.proofs.lemmas.Bool.{cond_both, cond-false, lt-ltb, le-ltb, ltb-true}
 use Rattle.bitset.proofs.Promises.{or_assoc, or_pos}
+use Rattle.measures.specs.Limits.{most_labels}
 use Rattle.measures.specs.Measures.{Lawful}
 use Rattle.measures.specs.Automata.{next, state_sets}
 use Rattle.measures.specs.ImageLaws.{image_or, image_below, image_pos}
 
-module _ (states labels start : ℕ) (table : List ℕ) (in_range : (0 < labels) × (labels ≤ 64)) (begins : start < states) (complete : (k : ℕ) → k < states * labels → slice_index table k < states) where
+module _ (states labels start : ℕ) (table : List ℕ) (in_range : (0 < labels) × (labels ≤ most_labels)) (begins : start < states) (complete : (k : ℕ) → k < states * labels → slice_index table k < states) where
   pub next_below : (l q : ℕ) → l < labels → q < states → next labels table l q < states
   next_below l q hl hq = complete (q * labels + l) (omega (arith, mul-add-lt q labels l states hq hl))
 

@@ -44,7 +44,8 @@ impl<M: Measure> Payload for Measured<M> {
 
 // What a mark is answered, with the judge's verdict beside its value.
 fn judged_mark<J: Judge>(judge: &J, mark: Marked<J::Value>) -> Marked<JudgedValue<J::Value>>
-    ensures answer { let answers = judged_value (J.Judge.some_of judge.now) (J.Judge.all_of judge.now) in
+    ensures answer { let some = J.Judge.some_of judge.now in
+        let answers = judged_value some (J.Judge.all_of judge.now) in
         marked result ≡ answer_map answers (marked mark) }
     ensures flows { MarksJudged (J.Measure.meaning judge.now)
         (J.Judge.some_of judge.now) (J.Judge.all_of judge.now) (J.Judge.good judge.now) }
@@ -104,7 +105,8 @@ pub fn hand_judged<J: Judge>(
 
 /// What a call is answered, with the judge's verdict beside the value of a mark.
 pub fn judged_answer<J: Judge>(judge: &J, answer: Answer<J::Value>) -> Answer<JudgedValue<J::Value>>
-    ensures { let answers = judged_value (J.Judge.some_of judge.now) (J.Judge.all_of judge.now) in
+    ensures { let some = J.Judge.some_of judge.now in
+        let answers = judged_value some (J.Judge.all_of judge.now) in
         result ≡ answer_map answers answer }
 {
     match answer {

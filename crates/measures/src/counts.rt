@@ -32,11 +32,11 @@ impl FlowCount {
 impl Measure for FlowCount {
     type Value = u32;
 
-    ghost use Rattle.measures.specs.Counts.{IsCount, count_meaning, count_lawful};
+    ghost use Rattle.measures.specs.Counts.{IsFlowCount, count_meaning, count_lawful};
 
     ghost meaning = { count_meaning };
 
-    ghost admits = { λ _ v. IsCount v };
+    ghost admits = { λ _ v. IsFlowCount v };
 
     ghost lawful = { count_lawful };
 

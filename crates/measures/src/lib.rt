@@ -30,11 +30,13 @@ pub use patterns::Pattern;
 pub use refusals::{Fault, Refusal};
 pub use relabellings::Relabelling;
 pub use replays::replay;
+pub use sizes::MOST_LABELS;
 pub use spans::{Lengths, Span};
 
 /// A measure: a number of labels, a start value, a step from a value by a letter and a join of two values, lawful on the values that it admits. A
 /// step by a letter that it does not have leaves the value. None of the four refuses or changes anything.
 pub trait Measure {
+    /// What is known of the flows that end at a mark.
     type Value: Copy;
 
     // the four things that it offers

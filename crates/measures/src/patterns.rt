@@ -22,7 +22,7 @@ struct Head {
     ghost final_states: { finals < 2 ^ states.number },
 }
 
-/// The most entries of a table: 64 labels for each of 64 states.
+// The most entries of a table: 64 labels for each of 64 states.
 const MOST_ENTRIES: usize = 4096;
 
 /// A pattern, always complete: its table has a row for each state, with a next state for each label; what lies past it is 0. Its memory is fixed,

@@ -1,6 +1,6 @@
 //! The relabelling: any measure, stepped by the labels that a table gives for its own.
 ghost use Rattle.std.specs.Prelude.{◌≡◌, ◌+◌, ◌<◌, ◌≤◌, length, Some, None, IfOk, MatchResult};
-ghost use Rattle.measures.specs.Formats.{relabelling_head_fault, relabelling_fault, relabelling_labels_in, entries_in, with_zeros};
+ghost use Rattle.measures.specs.Formats.{relabelling_head_fault, relabelling_head_size, relabelling_fault, relabelling_labels_in, entries_in, with_zeros};
 ghost use Rattle.measures.specs.Limits.{most_labels};
 ghost use Rattle.measures.specs.Relabellings.{IsRelabellingOf, inner_label, inner_of, inner_word, relabelling, relabelling_meaning, relabelling_size};
 ghost use Rattle.measures.specs.RelabellingLaws.{relabelled_lawful};
@@ -13,8 +13,11 @@ use super::tables::{table, with_zeros};
 use history::Letter;
 use text::Cursor;
 
-/// The first byte of a relabelling.
+// The first byte of a relabelling.
 const TAG: u8 = 0x30;
+
+// The number of bytes before its entries: the tag and the count.
+const HEAD: usize = 2;
 
 // The inner label of each label; the first `count` entries are used. Its memory is fixed, since nothing here allocates.
 #[derive(Clone, Copy)]
@@ -42,11 +45,12 @@ impl LabelTable {
 
     // The label count of the table where the cursor stands.
     fn read_count(cursor: Cursor<'_>) -> Result<Count, Fault>
-        ensures { let fault = relabelling_head_fault cursor.entry.input.now cursor.entry.place in
+        ensures { let b = cursor.entry.input.now in
+            let at = cursor.entry.place in
             MatchResult result
-            (λ n. (fault ≡ None) × (n.number ≡ relabelling_labels_in cursor.entry.input.now cursor.entry.place)
-            × (cursor.entry.place + 2 ≤ length cursor.entry.input.now))
-            (λ f. fault ≡ Some f) }
+            (λ n. (relabelling_head_fault b at ≡ None) × (n.number ≡ relabelling_labels_in b at)
+            × (at + relabelling_head_size ≤ length b))
+            (λ f. relabelling_head_fault b at ≡ Some f) }
     {
         match cursor.bytes() {
             Some([TAG]) => Err(Fault::at(Refusal::TableTooShort, cursor.input.len())),
@@ -59,16 +63,16 @@ impl LabelTable {
 
     // The table where the cursor stands.
     fn read(cursor: Cursor<'_>, n: u8) -> Result<LabelTable, Fault>
-        ensures { let fault = relabelling_fault cursor.entry.input.now cursor.entry.place n in
+        ensures { let b = cursor.entry.input.now in
+            let at = cursor.entry.place in
             MatchResult result
-            (λ t. (fault ≡ None)
-            × (t.count.number ≡ relabelling_labels_in cursor.entry.input.now cursor.entry.place)
-            × (t.entries ≡ with_zeros most_labels (entries_in cursor.entry.input.now cursor.entry.place)))
-            (λ f. fault ≡ Some f) }
+            (λ t. (relabelling_fault b at n ≡ None) × (t.count.number ≡ relabelling_labels_in b at)
+            × (t.entries ≡ with_zeros most_labels (entries_in b at)))
+            (λ f. relabelling_fault b at n ≡ Some f) }
     {
         let count = Self::read_count(cursor)?;
         let after = Cursor {
-            place: cursor.place + 2,
+            place: cursor.place + HEAD,
             ..cursor
         };
         let entries = table(after, count.number as usize, n)?;
@@ -85,15 +89,16 @@ impl<M: Measure> Relabelling<M> {
     pub fn read(cursor: Cursor<'_>, inner: M) -> Result<Relabelling<M>, Fault>
     where
         M: Drop,
-        ensures answer { let labels = (M.meaning inner).labels in
-            let fault = relabelling_fault cursor.entry.input.now cursor.entry.place labels in
-            MatchResult result
-            (λ r. (fault ≡ None) × IsRelabellingOf cursor.entry.input.now cursor.entry.place inner r)
+        ensures answer { let b = cursor.entry.input.now in
+            let at = cursor.entry.place in
+            let fault = relabelling_fault b at (M.meaning inner).labels in
+            MatchResult result (λ r. (fault ≡ None) × IsRelabellingOf b at inner r)
             (λ f. fault ≡ Some f) }
         ensures meaning { let b = cursor.entry.input.now in
             let at = cursor.entry.place in
+            let entries = with_zeros most_labels (entries_in b at) in
             IfOk result (λ r. ⟦<Relabelling<M> as Measure>⟧.meaning r
-            ≡ relabelling (with_zeros most_labels (entries_in b at)) (relabelling_labels_in b at) (M.meaning inner)) }
+            ≡ relabelling entries (relabelling_labels_in b at) (M.meaning inner)) }
     {
         let table = LabelTable::read(cursor, inner.labels())?;
         Ok(Relabelling { table, inner })
@@ -103,7 +108,7 @@ impl<M: Measure> Relabelling<M> {
     pub fn size(&self) -> usize
         ensures { result ≡ relabelling_size self.now }
     {
-        2 + self.table.count.number as usize
+        HEAD + self.table.count.number as usize
     }
 }
 

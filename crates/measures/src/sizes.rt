@@ -4,7 +4,7 @@ ghost use Rattle.measures.specs.Limits.{most_labels};
 ghost use Rattle.measures.specs.Refusals.{is_count};
 
 /// The most states of a pattern, and the most labels of a measure.
-pub(crate) const MOST_LABELS: u8 = 64;
+pub const MOST_LABELS: u8 = 64;
 
 // A number of states or of labels, from 1 to 64.
 #[derive(Clone, Copy)]

@@ -16,7 +16,7 @@ pub struct Lengths {
     pub longest: u16,
 }
 
-/// The largest limit of a span: it lies below the cap of the lengths, so the capped lengths decide it.
+// The largest limit of a span: it lies below the cap of the lengths, so the capped lengths decide it.
 const MOST_LIMIT: u16 = 65534;
 
 /// A span with a limit: a word is good if it has at most so many labels.

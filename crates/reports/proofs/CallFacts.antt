@@ -84,7 +84,7 @@ module _ (m : Meaning ℕ) (some all : ℕ → Bool) (n k : ℕ) (s : Contents �
   abbrev z : Size
   z = measured_size m n k most_marks
 
-  -- the transcript if the bytes begin with these calls, which are answered so, and lead to this state
+  -- the transcript if the bytes begin with these calls, which are answered so, and lead to these contents
   abbrev transcript_by_answers : List Call → List (Result (Answer ℕ) Refusal) → Contents ℕ → Transcript
   transcript_by_answers cs xs t = record {
     units = n;

@@ -1,6 +1,6 @@
 -- A recording that ends well: how many messages are left on their way, that all of its calls are read, and that an end stands after them.
--- Answers that give a good end were all accepted, and the bytes after the calls are the end alone. So the state at the end is that of the run of all
--- calls; it counts the messages whose state is on the way, which in a run are those sent and not received.
+-- Answers that give a good end were all accepted, and the bytes after the calls are the end alone. So the contents at the end are those of the run of all
+-- calls; counted are the messages whose state is on the way, which in a run are those sent and not received.
 use Rattle.std.proofs.Common.{◌≡◌, ◌↔◌, ℕ, zero, suc, ◌+◌, ◌*◌, ◌<◌, Bool, true, false, if◌then◌else◌, ◌==◌, List, [], ◌∷◌, length, drop, Some, Ok, Err, Result, sym, refl, ap, ◌∙◌, subst, inl, inr, ⊎_elim, arith}
 use Rattle.std.specs.List.{slice_get}
 use Rattle.std.proofs.Math.Path.{fun_ext}

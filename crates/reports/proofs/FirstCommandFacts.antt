@@ -19,40 +19,40 @@ OfForm other = ⊥
 
 -- What it says that this is the first command, and these the bytes after it, or that there is none for this reason: a call is the first of the
 -- calls, and has three bytes; else there are no calls. A making has three bytes too, whatever follows; and each reason is one of form.
-abbrev pub Begins : List ℕ → Result (Command × List ℕ) Reason → Type 0
-Begins bytes (Ok (Call c, rest)) = (b x : ℕ) × (bytes ≡ b ∷ (c.unit ∷ (x ∷ rest))) × (calls_in bytes ≡ c ∷ calls_in rest)
-Begins bytes (Ok (Make n k, rest)) =
+abbrev pub BeginsWith : List ℕ → Result (Command × List ℕ) Reason → Type 0
+BeginsWith bytes (Ok (Call c, rest)) = (b x : ℕ) × (bytes ≡ b ∷ (c.unit ∷ (x ∷ rest))) × (calls_in bytes ≡ c ∷ calls_in rest)
+BeginsWith bytes (Ok (Make n k, rest)) =
     (calls_in bytes ≡ []) × (b : ℕ) × (bytes ≡ b ∷ (n ∷ (k ∷ rest))) × ((zs : List ℕ) → first_command (b ∷ (n ∷ (k ∷ zs))) ≡ Ok (Make n k, zs))
-Begins bytes (Ok (End, rest)) = calls_in bytes ≡ []
-Begins bytes (Err reason) = (calls_in bytes ≡ []) × OfForm reason
+BeginsWith bytes (Ok (End, rest)) = calls_in bytes ≡ []
+BeginsWith bytes (Err reason) = (calls_in bytes ≡ []) × OfForm reason
 
 -- bytes that begin so with their first command
-abbrev FirstBegins : List ℕ → Type 0
-FirstBegins bytes = Begins bytes (first_command bytes)
+abbrev FirstBeginsWith : List ℕ → Type 0
+FirstBeginsWith bytes = BeginsWith bytes (first_command bytes)
 
 -- a making, and the three kinds of calls
-begins_make : (rest : List ℕ) → FirstBegins (make_byte ∷ rest)
+begins_make : (rest : List ℕ) → FirstBeginsWith (make_byte ∷ rest)
 begins_make [] = (refl, tt)
 begins_make (n ∷ []) = (refl, tt)
 begins_make (n ∷ (k ∷ rest)) = (refl, make_byte, refl, λ zs. refl)
 
-begins_send : (rest : List ℕ) → FirstBegins (send_byte ∷ rest)
+begins_send : (rest : List ℕ) → FirstBeginsWith (send_byte ∷ rest)
 begins_send [] = (refl, tt)
 begins_send (u ∷ []) = (refl, tt)
 begins_send (u ∷ (m ∷ rest)) = (send_byte, m, refl, refl)
 
-begins_receive : (rest : List ℕ) → FirstBegins (receive_byte ∷ rest)
+begins_receive : (rest : List ℕ) → FirstBeginsWith (receive_byte ∷ rest)
 begins_receive [] = (refl, tt)
 begins_receive (u ∷ []) = (refl, tt)
 begins_receive (u ∷ (m ∷ rest)) = (receive_byte, m, refl, refl)
 
-begins_mark : (rest : List ℕ) → FirstBegins (mark_byte ∷ rest)
+begins_mark : (rest : List ℕ) → FirstBeginsWith (mark_byte ∷ rest)
 begins_mark [] = (refl, tt)
 begins_mark (u ∷ []) = (refl, tt)
 begins_mark (u ∷ (l ∷ rest)) = (mark_byte, l, refl, refl)
 
 -- the end
-begins_end : (rest : List ℕ) → FirstBegins (end_byte ∷ rest)
+begins_end : (rest : List ℕ) → FirstBeginsWith (end_byte ∷ rest)
 begins_end [] = refl
 begins_end (u ∷ []) = refl
 begins_end (u ∷ (x ∷ rest)) = refl
@@ -67,10 +67,10 @@ module _ (b : ℕ) (no_make : b ≡ make_byte → ⊥) (no_send : b ≡ send_byt
   no_calls (u ∷ []) = refl
   no_calls (u ∷ (x ∷ rest)) = rw (ne_eqb b send_byte no_send, ne_eqb b receive_byte no_receipt, ne_eqb b mark_byte no_mark) refl
 
-  begins_other : (rest : List ℕ) → FirstBegins (b ∷ rest)
-  begins_other rest = subst (Begins (b ∷ rest)) (sym (no_command rest)) (no_calls rest, tt)
+  begins_other : (rest : List ℕ) → FirstBeginsWith (b ∷ rest)
+  begins_other rest = subst (BeginsWith (b ∷ rest)) (sym (no_command rest)) (no_calls rest, tt)
 
-by_byte : (b : ℕ) (rest : List ℕ) → FirstBegins (b ∷ rest)
+by_byte : (b : ℕ) (rest : List ℕ) → FirstBeginsWith (b ∷ rest)
 by_byte b rest =
     unless make_byte (begins_make rest) (λ no_make.
     unless send_byte (begins_send rest) (λ no_send.
@@ -78,14 +78,14 @@ by_byte b rest =
     unless mark_byte (begins_mark rest) (λ no_mark.
     unless end_byte (begins_end rest) (λ no_end. begins_other b no_make no_send no_receipt no_mark no_end rest)))))
   where
-    unless : (v : ℕ) → FirstBegins (v ∷ rest) → ((b ≡ v → ⊥) → FirstBegins (b ∷ rest)) → FirstBegins (b ∷ rest)
-    unless v here else_so = elim (cases_eq b v) [ inl e ↦ subst (λ (a : ℕ). FirstBegins (a ∷ rest)) (sym e) here | inr other ↦ else_so other ]
+    unless : (v : ℕ) → FirstBeginsWith (v ∷ rest) → ((b ≡ v → ⊥) → FirstBeginsWith (b ∷ rest)) → FirstBeginsWith (b ∷ rest)
+    unless v here else_so = elim (cases_eq b v) [ inl e ↦ subst (λ (a : ℕ). FirstBeginsWith (a ∷ rest)) (sym e) here | inr other ↦ else_so other ]
 
 -- What the first command says of the bytes is so.
-pub begins : (bytes : List ℕ) (r : Result (Command × List ℕ) Reason) → first_command bytes ≡ r → Begins bytes r
-begins bytes r is = subst (Begins bytes) is (all bytes)
+pub begins : (bytes : List ℕ) (r : Result (Command × List ℕ) Reason) → first_command bytes ≡ r → BeginsWith bytes r
+begins bytes r is = subst (BeginsWith bytes) is (all bytes)
   where
-    all : (bytes : List ℕ) → FirstBegins bytes
+    all : (bytes : List ℕ) → FirstBeginsWith bytes
     all [] = (refl, tt)
     all (b ∷ rest) = by_byte b rest
 

@@ -2,7 +2,8 @@
 use Rattle.std.proofs.Common.{◌≡◌, ℕ, ◌+◌, ◌*◌, ◌<◌, ◌≤◌, true, List, length, take, drop, get_or, Some, None, Option, nat_le, nat_lt, refl, arith, length-take, length-drop}
 use Rattle.std.specs.Option.{option_map, option_or}
 use Rattle.std.proofs.lemmas.Bool.{and_parts, leb-true, ltb-true}
-use Rattle.measures.specs.Formats.{states_in, labels_in, start_in, table_in, relabelling_labels_in, with_zeros, first_over, over_fault, table_fault, head_fault, pattern_fault, relabelling_head_fault, relabelling_fault}
+use Rattle.measures.specs.Formats.{head_size, states_in, labels_in, start_in, table_in, relabelling_labels_in, with_zeros, first_over, over_fault, table_fault, head_fault, pattern_fault, relabelling_head_fault, relabelling_fault}
+use Rattle.measures.specs.Limits.{most_entries, most_labels}
 use Rattle.measures.specs.Refusals.{is_count}
 use Rattle.measures.proofs.Promises.{below_bound, with_zeros_complete}
 use Rattle.reports.specs.declared.faults.Fault.TheVariants.{Pattern, Relabelling}
@@ -16,8 +17,8 @@ over_none from None e = refl
 over_none from (Some i) e = absurd (cc)
 
 -- A count is from 1 to 64.
-is_count-range : (n : ℕ) → is_count n ≡ true → (0 < n) × (n ≤ 64)
-is_count-range n is = let (some, few) = and_parts (nat_le 1 n) (nat_le n 64) is in let at_least = leb-true 1 n some in (omega arith, leb-true n 64 few)
+is_count-range : (n : ℕ) → is_count n ≡ true → (0 < n) × (n ≤ most_labels)
+is_count-range n is = let (some, few) = and_parts (nat_le 1 n) (nat_le n most_labels) is in let at_least = leb-true 1 n some in (omega arith, leb-true n most_labels few)
 
 -- A table without a fault has all of its entries, each below the bound.
 pub table_sound : (b : List ℕ) (from count bound : ℕ) → table_fault b from count bound ≡ None
@@ -37,14 +38,14 @@ module _ (b : List ℕ) (sound : front_fault b ≡ None) where
       (size, map_part _ _ pattern, map_part _ _ relabelling)
 
   -- The head and the table of the pattern have none, and the head and the table of the relabelling.
-  parts_sound : (head_fault b ≡ None) × (table_fault b 12 (states_in b * labels_in b) (states_in b) ≡ None) × (relabelling_head_fault b (relabelling_at b) ≡ None)
+  parts_sound : (head_fault b ≡ None) × (table_fault b head_size (states_in b * labels_in b) (states_in b) ≡ None) × (relabelling_head_fault b (relabelling_at b) ≡ None)
   parts_sound =
       let (size, pattern, relabelling) = front_parts in
       let (head, table) = or_parts (head_fault b) _ pattern in
       (head, table, (or_parts (relabelling_head_fault b (relabelling_at b)) _ relabelling).0)
 
   -- There are 1 to 64 states and 1 to 64 labels, and the start is a state.
-  head_sound : (0 < states_in b) × (states_in b ≤ 64) × ((0 < labels_in b) × (labels_in b ≤ 64)) × (start_in b < states_in b)
+  head_sound : (0 < states_in b) × (states_in b ≤ most_labels) × ((0 < labels_in b) × (labels_in b ≤ most_labels)) × (start_in b < states_in b)
   head_sound =
       let long = (ask_parts _ _ _ parts_sound.0).1 in
       let tag = (ask_parts _ _ _ long).1 in
@@ -55,7 +56,7 @@ module _ (b : List ℕ) (sound : front_fault b ≡ None) where
       (states_range.0, states_range.1, is_count-range (labels_in b) labels.0, ltb-true (start_in b) (states_in b) start.0)
 
   -- There are 1 to 64 labels.
-  pub labels_in_range : (0 < labels_in b) × (labels_in b ≤ 64)
+  pub labels_in_range : (0 < labels_in b) × (labels_in b ≤ most_labels)
   labels_in_range = head_sound.2
 
   -- The start is a state.
@@ -63,13 +64,13 @@ module _ (b : List ℕ) (sound : front_fault b ≡ None) where
   start_below = head_sound.3
 
   -- Each entry of the table is a state.
-  pub table_below : (k : ℕ) → k < states_in b * labels_in b → get_or (with_zeros 4096 (table_in b)) k 0 < states_in b
+  pub table_below : (k : ℕ) → k < states_in b * labels_in b → get_or (with_zeros most_entries (table_in b)) k 0 < states_in b
   table_below =
-      with_zeros_complete 4096 (states_in b) (states_in b * labels_in b) (table_in b) (with_zeros 4096 (table_in b)) refl
-      (table_sound b 12 (states_in b * labels_in b) (states_in b) parts_sound.1).1
+      with_zeros_complete most_entries (states_in b) (states_in b * labels_in b) (table_in b) (with_zeros most_entries (table_in b)) refl
+      (table_sound b head_size (states_in b * labels_in b) (states_in b) parts_sound.1).1
 
   -- The relabelling has 1 to 64 labels.
-  pub count_in_range : (0 < relabelling_labels_in b (relabelling_at b)) × (relabelling_labels_in b (relabelling_at b) ≤ 64)
+  pub count_in_range : (0 < relabelling_labels_in b (relabelling_at b)) × (relabelling_labels_in b (relabelling_at b) ≤ most_labels)
   count_in_range =
       let tag = (ask_parts _ _ _ parts_sound.2).1 in
       let long = (ask_parts _ _ _ tag).1 in

@@ -12,7 +12,7 @@ use Rattle.history.specs.Runs.{Size, by_unit, with_entry, call, events_in}
 use Rattle.history.specs.declared.Call.{Call}
 use Rattle.history.specs.Board.{History, Reply, new_history, contents_after, answer_to, reply, refusal, run}
 use Rattle.history.specs.Laws.{run_events}
-use Rattle.history.proofs.Promises.{accepts_runs, grown_here, after_taken, run_push, replies_as_long}
+use Rattle.history.proofs.Promises.{accepts_runs, entry_here, after_taken, run_push, replies_as_long}
 use Rattle.reports.proofs.TranscriptFacts.{AllTaken, taken_accepted}
 use Rattle.reports.proofs.LineFacts.{taken_both}
 
@@ -51,7 +51,7 @@ module _ {V : Type 0} (M : Payload V) (z : Size) where
     pub mark_there : run_events M z (with_mark before u l) u (length (by_unit before u)) ≡ Some (Mark l)
     mark_there = ap (λ (ev : Events). ev u (length (by_unit before u))) events_are ∙ ap (λ (es : List Event). slice_get es (length (by_unit before u))) (by_unit_push before u (Mark l)) ∙ seam (by_unit before u) (Mark l) []
 
-    -- What the history says that the mark was told is the answer to it.
+    -- The reply that the history has for the mark is the answer to it.
     pub answer_is : (r : Reply V) → at (run M z (with_mark before u l)).replies u (length (by_unit before u)) ≡ Some r
         → r.answer ≡ answer_to M z u (Mark l) ((run M z before).contents.rows u) ((contents_after M z (run M z before).contents u (Mark l)).rows u)
     answer_is r e =
@@ -64,4 +64,4 @@ module _ {V : Type 0} (M : Payload V) (z : Size) where
         (sym e
         ∙ ap (λ (g : History V). at g.replies u (length (by_unit before u))) next
         ∙ ap (λ (i : ℕ). at (with_entry h.replies u x) u i) (sym last)
-        ∙ grown_here h.replies u x))
+        ∙ entry_here h.replies u x))

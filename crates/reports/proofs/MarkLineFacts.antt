@@ -1,6 +1,6 @@
 -- The lines of the marks of a recording, where nothing is wrong with its front.
 -- The calls read are all accepted, so they are a run, and their lines are one for each mark. A list of calls is cut at a mark: the lines before it
--- are as many as the marks before it, and what the mark's own line says is what the history was told of the mark that ends the first part.
+-- are as many as the marks before it, and what the mark's own line says is the reply that the history has to the mark that ends the first part.
 use Rattle.std.proofs.Common.{◌≡◌, ℕ, ◌+◌, Bool, List, [], ◌∷◌, ◌++◌, length, drop, Some, None, refl, sym, ap, ◌∙◌, subst, inl, inr}
 use Rattle.std.specs.List.{slice_get}
 use Rattle.history.specs.Events.{Events}

@@ -1,4 +1,6 @@
 -- A recording that breaks off, and the part of the input before the break.
+-- Every input that agrees with it up to the break comes to the same calls and lines, and then to what its own bytes come to. The part before the break
+-- is such an input, which has no further bytes.
 use Rattle.std.proofs.Common.{◌≡◌, ℕ, ◌≤◌, List, [], ◌++◌, length, drop, take, None, Err, true, nat_le, refl, sym, ap, ◌∙◌, arith, length-take, append-nil}
 use Rattle.std.proofs.lemmas.Bool.{le-leb, leb-true}
 use Rattle.std.proofs.lemmas.List.{drop-drop, drop-take, length-drop}

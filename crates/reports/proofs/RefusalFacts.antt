@@ -1,5 +1,5 @@
 -- A call that a board refuses where a recording breaks off is none that could come next.
--- Where answers break a recording off with a refusal, the call after those read was refused in the state that they lead to. The rules refuse only
+-- Where answers break a recording off with a refusal, the call after those read was refused with the contents that they lead to. The rules refuse only
 -- what could not come next. And that call is the one that stands in the bytes there, since each call before it took three.
 use Rattle.std.proofs.Common.{◌≡◌, ℕ, ◌+◌, ◌*◌, List, [], ◌∷◌, length, drop, Some, Ok, Err, Result, sym, ap, ◌∙◌, subst, inl, inr}
 use Rattle.std.proofs.lemmas.Option.{none-some}

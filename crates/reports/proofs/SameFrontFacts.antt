@@ -9,7 +9,8 @@ use Rattle.bitset.specs.Sets.{meets, within}
 use Rattle.measures.specs.declared.refusals.Fault.{Fault as reader_fault}
 use Rattle.measures.specs.declared.refusals.Refusal.TheVariants.{NotAPattern, StateCount, LabelCount, StartState, FinalStates}
 use Rattle.measures.specs.Automata.{state_sets}
-use Rattle.measures.specs.Formats.{first_over, over_fault, table_fault, little_endian, states_in, labels_in, start_in, finals_in, table_in, head_fault, pattern_fault, relabelling_labels_in, entries_in, relabelling_head_fault, relabelling_fault, with_zeros}
+use Rattle.measures.specs.Formats.{pattern_tag, relabelling_tag, head_size, relabelling_head_size, first_over, over_fault, table_fault, little_endian, states_in, labels_in, start_in, finals_in, table_in, head_fault, pattern_fault, relabelling_labels_in, entries_in, relabelling_head_fault, relabelling_fault, with_zeros}
+use Rattle.measures.specs.Limits.{most_entries, most_labels}
 use Rattle.measures.specs.Measures.{Meaning}
 use Rattle.measures.specs.Refusals.{fault, ask, is_count}
 use Rattle.measures.specs.Relabellings.{relabelling}
@@ -22,15 +23,15 @@ use Rattle.reports.proofs.FrontFacts.{front_parts, table_sound}
 use Rattle.reports.proofs.PrefixFacts.{AgreeTo, take_shorter, same_byte, same_bytes, reaches_too}
 
 -- whether a byte is there and begins a relabelling, of one that is there and is the same
-begins_same : (at m n x y : ℕ) → at < n → x ≡ y → (nat_lt at m && y == 0x30) ≡ true → (nat_lt at n && x == 0x30) ≡ true
+begins_same : (at m n x y : ℕ) → at < n → x ≡ y → (nat_lt at m && y == relabelling_tag) ≡ true → (nat_lt at n && x == relabelling_tag) ≡ true
 begins_same at m n x y inside same begins = grind (arith, nat_tests)
 
 -- an input with an accepted front reaches to its recording
 pub front_within : (b : List ℕ) → front_fault b ≡ None → recording_at b ≤ length b
 front_within b sound =
     let at = relabelling_at b in
-    let table = (or_parts (relabelling_head_fault b at) (table_fault b (at + 2) (relabelling_labels_in b at) (labels_in b)) (front_parts b sound).2).1 in
-    let fits = (table_sound b (at + 2) (relabelling_labels_in b at) (labels_in b) table).0 in
+    let table = (or_parts (relabelling_head_fault b at) (table_fault b (at + relabelling_head_size) (relabelling_labels_in b at) (labels_in b)) (front_parts b sound).2).1 in
+    let fits = (table_sound b (at + relabelling_head_size) (relabelling_labels_in b at) (labels_in b) table).0 in
     omega arith
 
 module _ (b d : List ℕ) (p : ℕ) (agree : AgreeTo p b d) (within_b : p ≤ length b) where
@@ -45,21 +46,21 @@ module _ (b d : List ℕ) (p : ℕ) (agree : AgreeTo p b d) (within_b : p ≤ le
   relabelling_head_kept : (at : ℕ) → at + 1 < p → relabelling_head_fault b at ≡ None → relabelling_head_fault d at ≡ None
   relabelling_head_kept at inside none =
       let within_d = reaches_too p b d agree within_b in
-      let tag = ask_parts (nat_lt at (length b) && slice_index b at == 0x30) _ _ none in
+      let tag = ask_parts (nat_lt at (length b) && slice_index b at == relabelling_tag) _ _ none in
       ask_none _ _ _ (begins_same at (length b) (length d) (slice_index d at) (slice_index b at) (omega arith) (same_byte p b d agree at (omega arith)) tag.0)
       (ask_none _ _ _ (grind (arith, nat_tests)) (ap (λ (c : ℕ). ask (is_count c) (fault LabelCount (at + 1)) None) (same_byte p b d agree (at + 1) inside) ∙ (ask_parts _ _ _ tag.1).1))
 
   -- and the whole of it.
-  relabelling_kept : (at n : ℕ) → at + 2 + relabelling_labels_in b at ≤ p → relabelling_fault b at n ≡ None → relabelling_fault d at n ≡ None
+  relabelling_kept : (at n : ℕ) → at + relabelling_head_size + relabelling_labels_in b at ≤ p → relabelling_fault b at n ≡ None → relabelling_fault d at n ≡ None
   relabelling_kept at n inside none =
-      let (head, table) = or_parts (relabelling_head_fault b at) (table_fault b (at + 2) (relabelling_labels_in b at) n) none in
+      let (head, table) = or_parts (relabelling_head_fault b at) (table_fault b (at + relabelling_head_size) (relabelling_labels_in b at) n) none in
       or_none _ _ (relabelling_head_kept at (omega arith) head)
-      (subst (λ (c : ℕ). table_fault d (at + 2) c n ≡ None) (sym (same_byte p b d agree (at + 1) (omega arith))) (table_kept (at + 2) (relabelling_labels_in b at) n inside table))
+      (subst (λ (c : ℕ). table_fault d (at + relabelling_head_size) c n ≡ None) (sym (same_byte p b d agree (at + 1) (omega arith))) (table_kept (at + relabelling_head_size) (relabelling_labels_in b at) n inside table))
 
 -- what is wrong with a pattern's first twelve bytes, if they are there
 abbrev head_rest : ℕ → ℕ → ℕ → ℕ → ℕ → Option reader_fault
 head_rest first states labels start finals =
-    ask (first == 0x20) (fault NotAPattern 0)
+    ask (first == pattern_tag) (fault NotAPattern 0)
     (ask (is_count states) (fault StateCount 1)
     (ask (is_count labels) (fault LabelCount 2)
     (ask (nat_lt start states) (fault StartState 3)
@@ -72,7 +73,7 @@ head_same a c s t l m i j f g x y z w v none = rw (← x, ← y, ← z, ← w, �
 
 -- the measure of a pattern under a relabelling, by their parts
 judge_of : (states labels start : ℕ) (table : List ℕ) (count : ℕ) (entries : List ℕ) → Meaning ℕ
-judge_of states labels start table count entries = relabelling (with_zeros 64 entries) count (state_sets states labels start (with_zeros 4096 table))
+judge_of states labels start table count entries = relabelling (with_zeros most_labels entries) count (state_sets states labels start (with_zeros most_entries table))
 
 -- equal parts, equal measures
 same_parts : {states states' labels labels' start start' count count' : ℕ} {table table' entries entries' : List ℕ}
@@ -105,24 +106,24 @@ module _ (b d : List ℕ) (p : ℕ) (agree : AgreeTo p b d) (reaches : recording
   same_size = ap (λ (n : ℕ). n * labels_in b) same_states ∙ ap (λ (n : ℕ). states_in d * n) same_labels
 
   same_table : table_in b ≡ table_in d
-  same_table = sym (same_bytes p b d agree 12 (states_in b * labels_in b) (omega arith)) ∙ ap (λ (n : ℕ). take n (drop 12 d)) same_size
+  same_table = sym (same_bytes p b d agree head_size (states_in b * labels_in b) (omega arith)) ∙ ap (λ (n : ℕ). take n (drop head_size d)) same_size
 
   -- The relabelling begins at the same byte,
   same_at : relabelling_at b ≡ relabelling_at d
-  same_at = ap (λ (n : ℕ). 12 + n) same_size
+  same_at = ap (λ (n : ℕ). head_size + n) same_size
 
   same_count : relabelling_labels_in b (relabelling_at b) ≡ relabelling_labels_in d (relabelling_at d)
   same_count = sym (same_byte p b d agree (relabelling_at b + 1) (omega arith)) ∙ ap (relabelling_labels_in d) same_at
 
   same_entries : entries_in b (relabelling_at b) ≡ entries_in d (relabelling_at d)
   same_entries =
-      sym (same_bytes p b d agree (relabelling_at b + 2) (relabelling_labels_in b (relabelling_at b)) (omega arith))
-      ∙ ap (λ (n : ℕ). take n (drop (relabelling_at b + 2) d)) same_count
-      ∙ ap (λ (n : ℕ). take (relabelling_labels_in d (relabelling_at d)) (drop (n + 2) d)) same_at
+      sym (same_bytes p b d agree (relabelling_at b + relabelling_head_size) (relabelling_labels_in b (relabelling_at b)) (omega arith))
+      ∙ ap (λ (n : ℕ). take n (drop (relabelling_at b + relabelling_head_size) d)) same_count
+      ∙ ap (λ (n : ℕ). take (relabelling_labels_in d (relabelling_at d)) (drop (n + relabelling_head_size) d)) same_at
 
   -- and so does the recording.
   pub same_recording_at : recording_at b ≡ recording_at d
-  same_recording_at = ap (λ (n : ℕ). n + (2 + relabelling_labels_in b (relabelling_at b))) same_at ∙ ap (λ (n : ℕ). relabelling_at d + (2 + n)) same_count
+  same_recording_at = ap (λ (n : ℕ). n + (relabelling_head_size + relabelling_labels_in b (relabelling_at b))) same_at ∙ ap (λ (n : ℕ). relabelling_at d + (relabelling_head_size + n)) same_count
 
   -- The judge is the same.
   pub same_judge : SameJudge b d
@@ -150,11 +151,11 @@ module _ (b d : List ℕ) (p : ℕ) (agree : AgreeTo p b d) (reaches : recording
 
     pattern_kept : pattern_fault b ≡ None → pattern_fault d ≡ None
     pattern_kept none =
-        let (head, table) = or_parts (head_fault b) (table_fault b 12 (states_in b * labels_in b) (states_in b)) none in
+        let (head, table) = or_parts (head_fault b) (table_fault b head_size (states_in b * labels_in b) (states_in b)) none in
         or_none _ _ (head_kept head)
-        (subst (λ (n : ℕ). table_fault d 12 (states_in d * labels_in d) n ≡ None) same_states
-        (subst (λ (n : ℕ). table_fault d 12 n (states_in b) ≡ None) same_size
-        (table_kept b d p agree within_b 12 (states_in b * labels_in b) (states_in b) (omega arith) table)))
+        (subst (λ (n : ℕ). table_fault d head_size (states_in d * labels_in d) n ≡ None) same_states
+        (subst (λ (n : ℕ). table_fault d head_size n (states_in b) ≡ None) same_size
+        (table_kept b d p agree within_b head_size (states_in b * labels_in b) (states_in b) (omega arith) table)))
 
     relabels_kept : relabelling_fault b (relabelling_at b) (labels_in b) ≡ None → relabelling_fault d (relabelling_at d) (labels_in d) ≡ None
     relabels_kept none =

@@ -8,7 +8,7 @@ use Rattle.history.specs.declared.calls.Answer.{Answer}
 use Rattle.history.specs.declared.calls.Call.{Call}
 use Rattle.history.specs.declared.calls.Answer.TheVariants.{Sent, Received, Marked}
 use Rattle.history.specs.Limits.{most_marks}
-use Rattle.causality.specs.Boards.{Memory, Shows, left_among, Follows, Obeys, has_room, setup}
+use Rattle.causality.specs.Boards.{Memory, Shows, left_among, FollowsRules, Obeys, has_room, setup}
 use Rattle.measures.specs.Measures.{Meaning}
 use Rattle.measures.specs.Worths.{measured_payload, measured_size, measured_rules}
 use Rattle.reports.specs.declared.commands.Command.{Command}
@@ -53,8 +53,8 @@ module _ (m : Meaning ℕ) (some all : ℕ → Bool) (u : ℕ) where
   answer_line-err (Ok (Marked x)) r e = absurd (cc)
   answer_line-err (Err f) r e = (f, refl, cc)
 
--- A board of n units and k messages that shows the state s is handed the bytes that begin at the byte `from`. What is written, and the lines that the
--- rest comes to, are the lines of the whole; and the rest ends as the whole does. The memory shows the state that the calls so far lead to.
+-- A board of n units and k messages that shows the contents s is handed the bytes that begin at the byte `from`. What is written, and the lines that the
+-- rest comes to, are the lines of the whole; and the rest ends as the whole does. The memory shows the contents that the calls so far lead to.
 pub record Reached (m : Meaning ℕ) (some all : ℕ → Bool) (n k : ℕ) (s : Contents ℕ) (from : ℕ) (bytes old : List ℕ) (memory : Memory ℕ) (out : List ℕ) (place : ℕ) (rest : List ℕ) : Type 0 where
   pub contents : Contents ℕ
   pub shows : Shows m.start n k memory contents
@@ -95,8 +95,8 @@ module _ {m : Meaning ℕ} {some all : ℕ → Bool} {n k : ℕ} {s : Contents �
 
   module _ {c : Call} {more : List ℕ} (first : first_command rest ≡ Ok (commands.Call c, more)) (there : has_room n k memory ≡ true) {new : Memory ℕ} {x : Result (Answer ℕ) Refusal}
       (obeys : Obeys (setup (measured_rules m) n k) c memory new x) {t : Result (Option MarkLine) Reason} (said : t ≡ answer_line some all c.unit x) where
-    o : Follows (measured_payload m n) (measured_size m n k most_marks) c true memory new x
-    o = subst (λ (r : Bool). Follows (measured_payload m n) (measured_size m n k most_marks) c r memory new x) there obeys.follows
+    o : FollowsRules (measured_payload m n) (measured_size m n k most_marks) c true memory new x
+    o = subst (λ (r : Bool). FollowsRules (measured_payload m n) (measured_size m n k most_marks) c r memory new x) there obeys.follows
 
     -- and a call that is refused break the recording off.
     pub refuses : (r : Reason) → t ≡ Err r → (result : Result ℕ RecordingFault) → result ≡ Err (fault_at r place) → Wrote old out (on s from bytes) result

@@ -61,7 +61,7 @@ module _ (m : Meaning ℕ) (some all : ℕ → Bool) where
               (let (more, same, rest_agrees) = agree_rest b rest other 0 agree in
               ap (on s place) same ∙ ap (λ (l : List ℕ). on s place (b ∷ drop 1 l)) (sym same)))
 
-    -- whatever the state, and wherever they begin, these bytes break off so
+    -- whatever the contents, and wherever they begin, these bytes break off so
     abbrev Breaking : List ℕ → RecordingFault → Type 0
     Breaking bytes f = (s : Contents ℕ) (place : ℕ) → (on s place bytes).end ≡ Err f → Cut (on s place) place bytes f
 

@@ -42,7 +42,7 @@ module _ {V : Type 0} (M : Payload V) (z : Size) where
   pub reads_ok : (h : History V) (cs : List Call) → accepted_calls_from M z h (reads h.contents cs) ≡ reads h.contents cs
   reads_ok h cs = taken_accepted h (reads h.contents cs) (reads_taken h cs)
 
-  -- The state after a list of calls is its run's.
+  -- The contents after a list of calls are its run's.
   state_run : (h : History V) (cs : List Call) → contents_from M z h.contents cs ≡ (run_from M z h cs).contents
   state_run h [] = refl
   state_run h (c ∷ cs) = state_run (history_after M z h c) cs

@@ -11,11 +11,10 @@ use Rattle.measures.specs.Automata.{state_sets}
 use Rattle.measures.specs.Formats.{states_in, labels_in, start_in, finals_in, table_in, relabelling_labels_in, entries_in, with_zeros, PatternOf}
 use Rattle.measures.specs.Judges.{Judges}
 use Rattle.measures.specs.Laws.{accepted_events, AtMarks, TellsOfFlows}
+use Rattle.measures.specs.Limits.{most_entries, most_labels}
 use Rattle.measures.specs.Measures.{Meaning, Lawful, word_value}
-use Rattle.measures.specs.RelabellingLaws.{relabelling_lawful}
-use Rattle.measures.specs.StateSetLaws.{state_sets_lawful}
 use Rattle.measures.specs.Words.{Word, Labels}
-use Rattle.measures.proofs.Promises.{meets_or, within_or, some_decided, marks_judged, holds_judges, accepted_decides, recognizes, translated_judges, ranged}
+use Rattle.measures.proofs.Promises.{meets_or, within_or, some_decided, marks_judged, holds_judges, accepted_decides, recognizes, relabelling_lawful, state_sets_lawful, translated_judges, ranged}
 use Rattle.reports.specs.Laws.{in_pattern}
 use Rattle.reports.specs.Reports.{relabelling_at, front_fault, judge_in, some_in, all_in}
 use Rattle.reports.proofs.FrontFacts.{labels_in_range, start_below, table_below, count_in_range}
@@ -30,25 +29,25 @@ SetTells b ev u i set =
 module _ (b : List ℕ) (sound : front_fault b ≡ None) where
   -- the pattern's measure
   abbrev inner : Meaning ℕ
-  inner = state_sets (states_in b) (labels_in b) (start_in b) (with_zeros 4096 (table_in b))
+  inner = state_sets (states_in b) (labels_in b) (start_in b) (with_zeros most_entries (table_in b))
 
   -- the relabelling's table
   abbrev entries : List ℕ
-  entries = with_zeros 64 (entries_in b (relabelling_at b))
+  entries = with_zeros most_labels (entries_in b (relabelling_at b))
 
   -- the sets of states that the measure comes to
   abbrev admits : ℕ → Type 0
   admits set = (0 < set) × (set < 2 ^ states_in b)
 
   -- The parts of the pattern are those in the bytes.
-  parts : PatternOf b (states_in b) (labels_in b) (start_in b) (finals_in b) (with_zeros 4096 (table_in b))
+  parts : PatternOf b (states_in b) (labels_in b) (start_in b) (finals_in b) (with_zeros most_entries (table_in b))
   parts = record { states_are = refl; labels_are = refl; start_is = refl; finals_are = refl; table_is = refl }
 
   -- The relabelled pattern is a lawful measure.
   laws : Lawful (judge_in b) admits
   laws =
       relabelling_lawful entries (relabelling_labels_in b (relabelling_at b)) inner (count_in_range b sound)
-      (state_sets_lawful (states_in b) (labels_in b) (start_in b) (with_zeros 4096 (table_in b)) (labels_in_range b sound) (start_below b sound) (table_below b sound))
+      (state_sets_lawful (states_in b) (labels_in b) (start_in b) (with_zeros most_entries (table_in b)) (labels_in_range b sound) (start_below b sound) (table_below b sound))
 
   -- An answer that the pattern shows of words is one that the relabelled pattern shows of relabelled words.
   relabelled_judges : {op : Bool → Bool → Bool} {answer : ℕ → Bool} {good : Word → Type 0} → Judges op inner admits answer good
@@ -57,20 +56,20 @@ module _ (b : List ℕ) (sound : front_fault b ≡ None) where
 
   -- The pattern recognizes the words that its bytes accept.
   pattern_recognizes : Recognizes b inner (some_in b) (all_in b)
-  pattern_recognizes = recognizes b (states_in b) (labels_in b) (start_in b) (finals_in b) (with_zeros 4096 (table_in b)) parts (labels_in_range b sound) (start_below b sound) (table_below b sound)
+  pattern_recognizes = recognizes b (states_in b) (labels_in b) (start_in b) (finals_in b) (with_zeros most_entries (table_in b)) parts (labels_in_range b sound) (start_below b sound) (table_below b sound)
 
   -- An answer that goes through unions, and says of one word whether the pattern accepts it, judges the relabelled words.
   judges : {op : Bool → Bool → Bool} (answer : ℕ → Bool) → ((x y : ℕ) → answer (bit_or x y) ≡ op (answer x) (answer y))
       → ((w : Word) → Labels (labels_in b) w → answer (word_value inner w) ≡ accepts b w) → Judges op (judge_in b) admits answer (λ w. IsTrue (accepts b (in_pattern b w)))
   judges answer joins is = relabelled_judges {good = λ w. IsTrue (accepts b w)} (record {
     joins = λ x y _ _. joins x y;
-    decides = accepted_decides b (states_in b) (labels_in b) (start_in b) (finals_in b) (with_zeros 4096 (table_in b)) parts (labels_in_range b sound) (start_below b sound) (table_below b sound) answer is;
+    decides = accepted_decides b (states_in b) (labels_in b) (start_in b) (finals_in b) (with_zeros most_entries (table_in b)) parts (labels_in_range b sound) (start_below b sound) (table_below b sound) answer is;
   })
 
   -- Whether a set holds state q says of one word whether it leads there, once relabelled.
   judges_state : (q : ℕ) → Judges ◌||◌ (judge_in b) admits (λ set. has set q) (λ w. state_after b (in_pattern b w) ≡ q)
   judges_state q =
-      relabelled_judges (holds_judges b (states_in b) (labels_in b) (start_in b) (finals_in b) (with_zeros 4096 (table_in b)) parts (labels_in_range b sound) (start_below b sound) (table_below b sound) q)
+      relabelled_judges (holds_judges b (states_in b) (labels_in b) (start_in b) (finals_in b) (with_zeros most_entries (table_in b)) parts (labels_in_range b sound) (start_below b sound) (table_below b sound) q)
 
   -- The value of each mark of every run says so of its longest flows.
   pub sets_tell : AtMarks (judge_in b) (SetTells b)

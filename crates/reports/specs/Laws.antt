@@ -52,7 +52,8 @@ pub record Tells (b : List ℕ) (ev : Events) (u i : ℕ) (line : MarkLine) : Ty
   pub unit_is : line.unit ≡ u
   pub clock_is : line.clock ≡ marks ev u (suc i)
   pub predecessors_are : (v : ℕ) → Member v line.predecessors ↔ ((j : ℕ) × Immediate ev v j u i)
-  pub states_are : (q : ℕ) → Member q line.states ↔ ((f : List Position) × Longest ev u i f × (state_after b (in_pattern b (word ev f)) ≡ q))
+  pub states_are : (q : ℕ) → Member q line.states
+      ↔ ((f : List Position) × Longest ev u i f × (state_after b (in_pattern b (word ev f)) ≡ q))
   pub verdict : TellsOfFlows (λ w. IsTrue (accepts b (in_pattern b w))) line.some line.all ev u i
 
 -- Two inputs have the same front: the same bytes before their recordings, which are the pattern and the relabelling.

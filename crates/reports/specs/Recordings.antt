@@ -71,7 +71,7 @@ module _ (m : Meaning ℕ) (some all : ℕ → Bool) where
   lines (c ∷ cs) (Ok a ∷ xs) = line c.unit a ++ lines cs xs
   lines (c ∷ cs) (Err e ∷ xs) = []
 
-  -- What the calls that some bytes begin with come to on a board of n units and k messages in a state; they stand at a byte of the input.
+  -- What the calls that some bytes begin with come to on a board of n units and k messages with these contents; they stand at a byte of the input.
   abbrev pub transcript_on : ℕ → ℕ → Contents ℕ → ℕ → List ℕ → Transcript
   transcript_on n k s place bytes =
       let cs = calls_in bytes in

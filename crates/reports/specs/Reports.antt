@@ -3,7 +3,7 @@ use Rattle.std.specs.Prelude.{ℕ, ◌+◌, Bool, if◌then◌else◌, List, [],
 use Rattle.std.specs.Option.{option_map, option_or}
 use Rattle.bitset.specs.Sets.{meets, within}
 use Rattle.measures.specs.Automata.{state_sets}
-use Rattle.measures.specs.Formats.{states_in, labels_in, start_in, finals_in, table_in, relabelling_labels_in, entries_in, with_zeros, pattern_size, pattern_fault, relabelling_fault}
+use Rattle.measures.specs.Formats.{states_in, labels_in, start_in, finals_in, table_in, relabelling_head_size, relabelling_labels_in, entries_in, with_zeros, pattern_size, pattern_fault, relabelling_fault}
 use Rattle.measures.specs.Limits.{most_entries, most_labels}
 use Rattle.measures.specs.Measures.{Meaning}
 use Rattle.measures.specs.Relabellings.{relabelling}
@@ -21,13 +21,15 @@ relabelling_at b = pattern_size b
 
 -- the byte after the relabelling, where the recording begins
 abbrev pub recording_at : List ℕ → ℕ
-recording_at b = relabelling_at b + (2 + relabelling_labels_in b (relabelling_at b))
+recording_at b =
+    relabelling_at b + (relabelling_head_size + relabelling_labels_in b (relabelling_at b))
 
 -- Why an input has no recording that can be read: too many bytes, or else a bad pattern, or else a bad relabelling.
 abbrev pub front_fault : List ℕ → Option Fault
 front_fault b =
     if nat_le (length b) most_bytes
-    then option_or (option_map Pattern (pattern_fault b)) (option_map Relabelling (relabelling_fault b (relabelling_at b) (labels_in b)))
+    then option_or (option_map Pattern (pattern_fault b))
+    (option_map Relabelling (relabelling_fault b (relabelling_at b) (labels_in b)))
     else Some TooLong
 
 -- the measure of the pattern under the relabelling

@@ -28,7 +28,8 @@ result_with_reason (Ok x) = Ok x
 result_with_reason (Err e) = Err (Refused e)
 
 -- The line of the answer to a call of unit u, if it has one, or why the recording breaks off there.
-abbrev pub answer_line : (ℕ → Bool) → (ℕ → Bool) → ℕ → Result (Answer ℕ) Refusal → Result (Option MarkLine) Reason
+abbrev pub answer_line : (ℕ → Bool) → (ℕ → Bool) → ℕ → Result (Answer ℕ) Refusal
+    → Result (Option MarkLine) Reason
 answer_line some all u (Ok (Sent clock)) = Ok None
 answer_line some all u (Ok (Received clock)) = Ok None
 answer_line some all u (Ok (Marked m)) = Ok (Some (mark_line some all u m))
@@ -39,10 +40,18 @@ abbrev pub judged_line : ℕ → Answer (JudgedValue ℕ) → Option MarkLine
 judged_line u (Sent clock) = None
 judged_line u (Received clock) = None
 judged_line u (Marked m) =
-    Some (record { unit = u; clock = m.clock; predecessors = m.predecessors; states = m.value.value; some = m.value.verdict.some; all = m.value.verdict.all })
+    Some (record {
+      unit = u;
+      clock = m.clock;
+      predecessors = m.predecessors;
+      states = m.value.value;
+      some = m.value.verdict.some;
+      all = m.value.verdict.all;
+    })
 
 -- A call was answered by the rules, on a board of that setup under a judge with these two answers, and the result is the line of the answer.
-abbrev pub AnswersCall : (some all : ℕ → Bool) → Setup ℕ → Call → Memory ℕ → Memory ℕ → Result (Option MarkLine) Reason → Type 0
+abbrev pub AnswersCall : (some all : ℕ → Bool) → Setup ℕ → Call → Memory ℕ → Memory ℕ
+    → Result (Option MarkLine) Reason → Type 0
 AnswersCall some all b c old new result =
     (x : Result (Answer ℕ) Refusal) × Obeys b c old new x × (result ≡ answer_line some all c.unit x)
 
@@ -51,14 +60,16 @@ abbrev pub Wrote : List ℕ → List ℕ → Transcript → Result ℕ Recording
 Wrote old new t result = (new ≡ old ++ mark_lines t.lines) × (result ≡ t.end)
 
 -- A board of n units and k messages, under a judge that is known by three functions, was handed the calls that the bytes begin with, which stand at
--- a byte of the input: of each state that its memory showed, the transcript was written.
+-- a byte of the input: of all contents that its memory showed, the transcript was written.
 abbrev pub WroteOn : {J : Type 0} → (J → Meaning ℕ) → (J → ℕ → Bool) → (J → ℕ → Bool) → J → ℕ → ℕ → Memory ℕ
     → ℕ → List ℕ → List ℕ → List ℕ → Result ℕ RecordingFault → Type 0
 WroteOn meaning some all judge n k memory from bytes old new result =
     (s : Contents ℕ) → Shows (meaning judge).start n k memory s
     → Wrote old new (transcript_on (meaning judge) (some judge) (all judge) n k s from bytes) result
 
--- Of each state that the memory of such a board shows, a recording ends so whose end stands at a byte of the input, with these bytes after it.
-abbrev pub EndedOn : {J : Type 0} → (J → Meaning ℕ) → J → ℕ → ℕ → Memory ℕ → ℕ → List ℕ → Result ℕ RecordingFault → Type 0
+-- Of all contents that the memory of such a board shows, a recording ends so whose end stands at a byte of the input, with these bytes after it.
+abbrev pub EndedOn : {J : Type 0} → (J → Meaning ℕ) → J → ℕ → ℕ → Memory ℕ
+    → ℕ → List ℕ → Result ℕ RecordingFault → Type 0
 EndedOn meaning judge n k memory place after result =
-    (s : Contents ℕ) → Shows (meaning judge).start n k memory s → result ≡ end_after_calls (left_among s.posts k) place (Ok (End, after))
+    (s : Contents ℕ) → Shows (meaning judge).start n k memory s
+    → result ≡ end_after_calls (left_among s.posts k) place (Ok (End, after))

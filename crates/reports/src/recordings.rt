@@ -109,8 +109,10 @@ fn follow<J: Judge<Value = u64>>(
     requires places { from + length bytes.now < 2 ^ 64 }
     requires space { length page.old.text + TEXT_PER_BYTE * length bytes.now ≤ page.old.room }
     ensures tells { let b = setup_of board.now in
-        WroteOn J.Measure.meaning J.Judge.some_of J.Judge.all_of (payload_of board.now).measure b.units b.messages
-        (memory clocks.old flags.old values.old posts.old) from bytes.now page.old.text page.new.text result }
+        WroteOn J.Measure.meaning J.Judge.some_of J.Judge.all_of
+        (payload_of board.now).measure b.units b.messages
+        (memory clocks.old flags.old values.old posts.old)
+        from bytes.now page.old.text page.new.text result }
     ensures long { length page.new.text ≤ length page.old.text + TEXT_PER_BYTE * length bytes.now }
     ensures room { page.old.room ≤ page.new.room }
 {

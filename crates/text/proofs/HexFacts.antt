@@ -1,4 +1,6 @@
 -- The 16 digits of a word: read back, as a format with a width writes them, and as the digits of its bytes.
+-- Read back, by induction over their number, the first digit first. As the format writes them: it puts zeros before the digits that a number has, and
+-- these are the last of the sixteen, by induction from the last digit on. As bytes: two digits are one byte, so the last byte goes off at the end.
 use Rattle.std.proofs.Common.{◌≡◌, ℕ, zero, suc, ◌+◌, ◌-◌, ◌*◌, ◌/◌, ◌%◌, ◌^◌, ◌<◌, ◌≤◌, ◌==◌, Bool, true, false, List, [], ◌∷◌, ◌++◌, length, replicate, if◌then◌else◌, sym, refl, ap, ap₂, ◌∙◌, append_assoc, append-nil, add_assoc, mul_assoc, add-mul, arith, lit<, lit≤, eqb-true}
 use native.Mathlib.Nat.{div-div-eq-div-mul, one-le-pow, pow-succ', zero-div}
 use lib.Arith.{mod-mul}

@@ -1,6 +1,7 @@
 -- The waypoint.
 use Rattle.std.specs.Prelude.{ℕ, ◌<◌, ◌≤◌, Bool, true, false, ◌&&◌, ◌||◌, ◌==◌, if◌then◌else◌, ⊤}
 use Rattle.std.proofs.Common.{rules}
+use Rattle.measures.specs.Limits.{most_labels}
 use Rattle.measures.specs.Measures.{Meaning, Lawful}
 use Rattle.waypoint.specs.declared.Passages.{Passages}
 
@@ -19,5 +20,5 @@ waypoint n label = record {
 }
 
 -- it keeps the laws, on every value
-pub waypoint_lawful : (n label : ℕ) → label < n → n ≤ 64 → Lawful (waypoint n label) (λ _. ⊤)
+pub waypoint_lawful : (n label : ℕ) → label < n → n ≤ most_labels → Lawful (waypoint n label) (λ _. ⊤)
 waypoint_lawful n label known few = search rules

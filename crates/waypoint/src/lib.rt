@@ -3,12 +3,14 @@
 #![tactic(auto)]
 
 ghost use Rattle.std.specs.Prelude.{◌≡◌, ◌<◌, ◌≤◌, ◌↔◌, Contains, IsSome, IfSome, ⊤};
+ghost use Rattle.measures.specs.Limits.{most_labels};
 ghost use Rattle.waypoint.specs.Waypoints.{waypoint, waypoint_lawful};
 
 #[cfg(test)]
 mod tests;
 
-use measures::{Judge, Measure};
+use history::Letter;
+use measures::{Judge, MOST_LABELS, Measure};
 
 /// Of the flows that end at a mark: whether some passes the waypoint, and whether each does.
 #[derive(Clone, Copy, PartialEq, Eq, Debug)]
@@ -23,17 +25,17 @@ pub struct Waypoint {
     pub labels: u8,
     pub label: u8,
     ghost known: { label < labels },
-    ghost few: { labels ≤ 64 },
+    ghost few: { labels ≤ most_labels },
 }
 
 impl Waypoint {
     /// The waypoint `label` among `labels` labels, numbered from 0. None unless it is one of them,
     /// and they are at most 64.
     pub fn new(labels: u8, label: u8) -> Option<Waypoint>
-        ensures made { IsSome result ↔ ((label < labels) × (labels ≤ 64)) }
+        ensures made { IsSome result ↔ ((label < labels) × (labels ≤ most_labels)) }
         ensures fields { IfSome result (λ w. (w.labels ≡ labels) × (w.label ≡ label)) }
     {
-        if label < labels && labels <= 64 {
+        if label < labels && labels <= MOST_LABELS {
             Some(Waypoint { labels, label })
         } else {
             None
@@ -61,7 +63,7 @@ impl Measure for Waypoint {
         }
     }
 
-    fn step(&self, v: Passages, l: u8) -> Passages {
+    fn step(&self, v: Passages, l: Letter) -> Passages {
         if l == self.label {
             Passages {
                 some: true,

@@ -13,10 +13,10 @@ use super::{Head, Pattern};
 use bitset::is_below;
 use text::Cursor;
 
-/// The first byte of a pattern.
+// The first byte of a pattern.
 const TAG: u8 = 0x20;
 
-/// The number of bytes before a pattern's table.
+// The number of bytes before a pattern's table.
 const HEAD: usize = 12;
 
 impl Head {
@@ -58,12 +58,13 @@ impl Pattern {
     /// holds the states to which they lead (`recognizes`), and whatever calls a board was handed, the set answered at a mark those to which the
     /// longest flows that end there lead (`runs`).
     pub fn read(input: &[u8]) -> Result<Pattern, Fault>
-        ensures answer { MatchResult result (λ p. (pattern_fault input.now ≡ None) × IsPatternOf input.now p)
+        ensures answer { MatchResult result
+            (λ p. (pattern_fault input.now ≡ None) × IsPatternOf input.now p)
             (λ f. pattern_fault input.now ≡ Some f) }
-        ensures recognizes { IfOk result (λ p. Recognizes input.now (⟦<Pattern as Measure>⟧.meaning p)
-            (⟦<Pattern as Judge>⟧.some_of p) (⟦<Pattern as Judge>⟧.all_of p)) }
-        ensures runs { IfOk result (λ p. MarksReach input.now (⟦<Pattern as Measure>⟧.meaning p)
-            (⟦<Pattern as Judge>⟧.some_of p) (⟦<Pattern as Judge>⟧.all_of p)) }
+        ensures recognizes { IfOk result (λ p. Recognizes input.now
+            (⟦<Pattern as Measure>⟧.meaning p) (⟦<Pattern as Judge>⟧.some_of p) (⟦<Pattern as Judge>⟧.all_of p)) }
+        ensures runs { IfOk result (λ p. MarksReach input.now
+            (⟦<Pattern as Measure>⟧.meaning p) (⟦<Pattern as Judge>⟧.some_of p) (⟦<Pattern as Judge>⟧.all_of p)) }
     {
         let head = Head::read(input)?;
         let after = Cursor { input, place: HEAD };

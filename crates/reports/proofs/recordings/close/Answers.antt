@@ -3,7 +3,7 @@ use Rattle.std.proofs.Common.{◌≡◌, ℕ, Bool, true, Ok, rules, ap, ◌∙�
 use Rattle.history.specs.Messages.{is_on_its_way, unsent}
 use Rattle.history.specs.Board.{Contents}
 use Rattle.causality.specs.Boards.{Memory, Shows, left_among, left_answer, memory}
-use Rattle.causality.proofs.Promises.{count_below_same}
+use Rattle.history.proofs.Promises.{count_below_same}
 use Rattle.reports.proofs.recordings.close.Goals as goal
 
 -- A board whose memory shows some contents answers how many messages are on their way in them.

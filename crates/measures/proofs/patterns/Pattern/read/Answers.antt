@@ -1,6 +1,7 @@
 use Rattle.std.proofs.Common.{ℕ, ◌*◌, ◌<◌, get_or, arith}
 use Rattle.std.proofs.lemmas.Grind.{common_steps}
 use Rattle.measures.specs.Formats.{PatternOf}
+use Rattle.measures.specs.Limits.{most_entries}
 use Rattle.measures.proofs.ReachFacts.{marks_reach}
 use Rattle.measures.proofs.PatternFacts.{with_zeros_complete, recognizes}
 use Rattle.measures.proofs.patterns.Pattern.read.Goals as goal
@@ -12,7 +13,7 @@ read_is : (c : goal.After-result-1) → (let h = c.in_ok-head.head in
 read_is c =
     let h = c.in_ok-head.head in (
       grind (arith, common_steps, c.in_ok-head.ensures, c.in_ok-table.ensures),
-      with_zeros_complete 4096 h.states.number (h.states.number * h.labels.number) c.in_ok-table.table.now c.with_zeros.result c.with_zeros.ensures (λ k l. c.in_ok-table.ensures.3 k (omega arith)),
+      with_zeros_complete most_entries h.states.number (h.states.number * h.labels.number) c.in_ok-table.table.now c.with_zeros.result c.with_zeros.ensures (λ k l. c.in_ok-table.ensures.3 k (omega arith)),
     )
 
 pub returns-clause-recognizes : goal.returns-clause-recognizes
