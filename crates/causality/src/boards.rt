@@ -34,7 +34,8 @@ impl<P: Payload> Board<P> {
     ghost use Rattle.history.specs.Messages.{post_after, unsent};
     ghost use Rattle.history.specs.Runs.{call};
     ghost use Rattle.causality.specs.Boards.{EachShows, Obeys, has_all_rows, has_room, left_answer, memory, payload_of, setup, setup_of, state_answer};
-    ghost use Rattle.causality.specs.Calls.{Begins, IsRefused, MakeAnswer, MayMark, Ready, handling_event, own_clock_in, result_as};
+    ghost use Rattle.causality.specs.Calls.{Begins, IsRefused, MakeAnswer, MayMark, Ready, Room, handling_event, own_clock_in, result_as};
+    ghost use Rattle.causality.specs.Marking.{WritesMark};
     ghost use Rattle.causality.specs.Payloads.{Reads};
 
     /// A board of that size, whose memory is still to be brought. Refuses units outside 1 to 16 (1) and more than 255 messages (2).
@@ -296,6 +297,27 @@ impl<P: Payload> Board<P> {
     {
         let own = self.ask_mark(clocks, flags, values, posts, unit, label)?;
         let clock = own + 1;
+        Ok(self.put_mark(clocks, flags, values, unit, label, clock))
+    }
+
+    // What a mark does that has asked its questions: it writes its unit's row, by its own clock.
+    fn put_mark(
+        &self,
+        clocks: &mut Grid<'_, Clock>,
+        flags: &mut Grid<'_, bool>,
+        values: &mut Grid<'_, P::Value>,
+        unit: usize,
+        label: u8,
+        clock: Clock,
+    ) -> Marked<P::Value>
+        requires clocks { Room self.now.units self.now.messages clocks.old }
+        requires flags { Room self.now.units self.now.messages flags.old }
+        requires values { Room self.now.units self.now.messages values.old }
+        requires unit { unit < self.now.units }
+        ensures clock { result.clock ≡ clock }
+        ensures writes { WritesMark (setup_of self.now) unit label
+            clocks.old clocks.new flags.old flags.new values.old values.new result }
+    {
         let start = unit * self.units;
         let end = start + self.units;
         let predecessors = take_positions(&mut flags.cells[start..end]);
@@ -303,11 +325,11 @@ impl<P: Payload> Board<P> {
         let value = self.put_value(row, predecessors, unit, label);
         clocks.cells[start + unit] = clock;
         flags.cells[start + unit] = true;
-        Ok(Marked {
+        Marked {
             clock,
             predecessors,
             value,
-        })
+        }
     }
 
     // The value of a mark, by the set of the units that have an immediate predecessor of it and the values of its unit's row. The row is reset, with
