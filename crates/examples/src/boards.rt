@@ -189,6 +189,13 @@ impl Memory {
         board.hand(clocks, flags, values, posts, call)
     }
 
+    // What comes of a call: the number of its refusal, if it is refused, and whether the memory is then as it was.
+    fn outcome(&mut self, board: &Board<Measured<Pattern>>, call: Call) -> (Option<u8>, bool) {
+        let before = *self;
+        let number = refusal_number(self.hand(board, call));
+        (number, *self == before)
+    }
+
     // A unit of that board makes a mark, which the pattern judges.
     fn judge(
         &mut self,
@@ -368,10 +375,8 @@ fn questions_of_the_calls(rt: HostRuntime) -> Result<(), Fail> {
     let mut memory = WRITTEN_BEFORE;
     let board = memory.make(pattern()?)?;
     for (unit, event, number) in QUESTIONS {
-        let before = memory;
-        let answered = memory.hand(&board, Call { unit, event });
         assert_eq!(rt;
-            (refusal_number(answered), memory == before),
+            memory.outcome(&board, Call { unit, event }),
             (number, number.is_some())
         );
     }

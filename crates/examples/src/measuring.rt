@@ -1,7 +1,7 @@
 //! Worked values of the flow count, the span, the pattern and a relabelling, and what their makers refuse.
 use super::reading::{other_labels, pattern};
 use history::Letter;
-use measures::{FlowCount, Judge, Lengths, Measure, Refusal, Span, value_along};
+use measures::{FlowCount, Judge, Lengths, Measure, Refusal, Span, Verdict, value_along};
 use std::test::Fail;
 
 // The number of the refusal, if there is one.
@@ -22,6 +22,14 @@ fn span_refusal(labels: u8, limit: u16) -> Option<u8> {
 // The value of a word.
 fn word_value<M: Measure>(measure: &M, word: &[Letter]) -> M::Value {
     value_along(measure, word)
+}
+
+// Whether some, and whether all, of the words of a value are good.
+fn verdict<J: Judge>(judge: &J, value: J::Value) -> Verdict {
+    Verdict {
+        some: judge.some(value),
+        all: judge.all(value),
+    }
 }
 
 #[test]
@@ -71,21 +79,27 @@ fn spans_have_two_ends(rt: HostRuntime) -> Result<(), Fail> {
         shortest: 65535,
         longest: 65535,
     };
+    let values = [long, both, span.step(full, 0)];
     assert_eq!(rt;
-        [long, both, span.step(full, 0)],
-        [
-            Lengths {
-                shortest: 3,
-                longest: 3,
+        (values, verdict(&span, both)),
+        (
+            [
+                Lengths {
+                    shortest: 3,
+                    longest: 3,
+                },
+                Lengths {
+                    shortest: 2,
+                    longest: 3,
+                },
+                full,
+            ],
+            Verdict {
+                some: true,
+                all: false,
             },
-            Lengths {
-                shortest: 2,
-                longest: 3,
-            },
-            full,
-        ]
+        )
     );
-    assert_eq!(rt; (span.some(both), span.all(both)), (true, false));
     Ok(())
 }
 
@@ -96,14 +110,31 @@ fn the_beacon_while_the_player_waits(rt: HostRuntime) -> Result<(), Fail> {
     let good = word_value(&pattern, &[1, 0, 2]);
     let bad = word_value(&pattern, &[0, 2]);
     let both = pattern.join(good, bad);
-    assert_eq!(rt; [good, bad, both, pattern.step(both, 3)], [8, 16, 24, 24]);
+    let values = [good, bad, both, pattern.step(both, 3)];
+    let verdicts = [
+        verdict(&pattern, good),
+        verdict(&pattern, bad),
+        verdict(&pattern, both),
+    ];
     assert_eq!(rt;
-        [pattern.some(good), pattern.some(bad), pattern.some(both)],
-        [true, false, true]
-    );
-    assert_eq!(rt;
-        [pattern.all(good), pattern.all(bad), pattern.all(both)],
-        [true, false, false]
+        (values, verdicts),
+        (
+            [8, 16, 24, 24],
+            [
+                Verdict {
+                    some: true,
+                    all: true,
+                },
+                Verdict {
+                    some: false,
+                    all: false,
+                },
+                Verdict {
+                    some: true,
+                    all: false,
+                },
+            ],
+        )
     );
     Ok(())
 }
