@@ -5,8 +5,8 @@ use causality::{Bare, Board, Payload};
 use grid::Grid;
 use history::{Answer, Call, Clock, Event, Marked, Post, Refusal};
 use measures::{
-    FlowCount, Judge, JudgedValue, Lengths, Measure, Measured, Pattern, Span, Verdict, mark_judged,
-    replay,
+    Fault, FlowCount, Judge, JudgedValue, Lengths, Measure, Measured, Pattern, Span, Verdict,
+    mark_judged, replay,
 };
 use std::test::Fail;
 
@@ -343,11 +343,11 @@ fn just_enough_memory(rt: HostRuntime) -> Result<(), Fail> {
     let measured_answers = memory.measured_refusals(pattern, &made, ENOUGH);
     let values = memory.values;
     let answers = memory.refusals(&bare, ENOUGH);
+    let asked = [Some(4), Some(4), Some(4), Some(5), None, None];
     assert_eq!(rt;
-        [answers, measured_answers],
-        [[Some(4), Some(4), Some(4), Some(5), None, None]; 2]
+        (answers, measured_answers, values),
+        (asked, asked, [1, 1, 1, 1, 1, 1, 1, 1, 9, 9, 9, 9])
     );
-    assert_eq!(rt; values, [1, 1, 1, 1, 1, 1, 1, 1, 9, 9, 9, 9]);
     Ok(())
 }
 
@@ -488,6 +488,8 @@ fn the_player_waits_first(rt: HostRuntime) -> Result<(), Fail> {
 }
 
 // What a board says of itself: whether the memory is long enough, what became of a message, and how many are on their way.
+type Status = (bool, Result<Post, Refusal>, Result<usize, Refusal>);
+
 fn status<P: Payload>(
     board: &Board<P>,
     clocks: &Grid<'_, Clock>,
@@ -495,12 +497,33 @@ fn status<P: Payload>(
     values: &Grid<'_, P::Value>,
     posts: &[Post],
     message: usize,
-) -> (bool, Result<Post, Refusal>, Result<usize, Refusal>) {
+) -> Status {
     (
         board.has_room(clocks, flags, values, posts),
         board.state(clocks, flags, values, posts, message),
         board.left(clocks, flags, values, posts),
     )
+}
+
+impl Memory {
+    // What a board under the pattern says of itself, in just enough of the memory.
+    fn status(&mut self, board: &Board<Measured<Pattern>>, message: usize) -> Status {
+        let clocks = &Grid::new(first_cells(&mut self.clocks, 8), 2);
+        let flags = &Grid::new(first_cells(&mut self.flags, 8), 2);
+        let values = &Grid::new(first_cells(&mut self.values, 8), 2);
+        let posts = first_cells(&mut self.posts, 2);
+        status(board, clocks, flags, values, posts, message)
+    }
+
+    // The same of a board without measures.
+    fn bare_status(&mut self, board: &Board<Bare>, message: usize) -> Status {
+        let mut nothing = [(); 8];
+        let clocks = &Grid::new(first_cells(&mut self.clocks, 8), 2);
+        let flags = &Grid::new(first_cells(&mut self.flags, 8), 2);
+        let values = &Grid::new(&mut nothing, 2);
+        let posts = first_cells(&mut self.posts, 2);
+        status(board, clocks, flags, values, posts, message)
+    }
 }
 
 // While one message is on its way, with the measure and without it.
@@ -513,22 +536,17 @@ fn a_message_on_its_way(rt: HostRuntime) -> Result<(), Fail> {
         unit: 1,
         event: Event::Send(0),
     };
-    assert_eq!(rt; answer_parts(memory.hand(&board, call)), Ok((0, None)));
-    let clocks = &Grid::new(first_cells(&mut memory.clocks, 8), 2);
-    let flags = &Grid::new(first_cells(&mut memory.flags, 8), 2);
-    let values = &Grid::new(first_cells(&mut memory.values, 8), 2);
-    let posts = first_cells(&mut memory.posts, 2);
-    let mut nothing = [(); 8];
-    let nothing = &Grid::new(&mut nothing, 2);
+    let sent = answer_parts(memory.hand(&board, call));
+    let statuses = [memory.status(&board, 0), memory.bare_status(&bare, 1)];
     assert_eq!(rt;
-        [
-            status(&board, clocks, flags, values, posts, 0),
-            status(&bare, clocks, flags, nothing, posts, 1),
-        ],
-        [
-            (true, Ok(Post::OnItsWay), Ok(1)),
-            (true, Ok(Post::Unsent), Ok(1)),
-        ]
+        (sent, statuses),
+        (
+            Ok((0, None)),
+            [
+                (true, Ok(Post::OnItsWay), Ok(1)),
+                (true, Ok(Post::Unsent), Ok(1)),
+            ],
+        )
     );
     Ok(())
 }
@@ -624,10 +642,19 @@ where
 // An answer place that no call has written: a refusal that no board gives.
 const UNWRITTEN: Refusal = Refusal::StampLength;
 
+// The same under the pattern.
+fn pattern_replay_counts(
+    values: &mut [u64],
+    calls: &[Call],
+    answers: &mut [Result<Answer<u64>, Refusal>],
+) -> Result<Result<(usize, usize), Refusal>, Fault> {
+    Ok(replay_counts(pattern()?, values, calls, answers))
+}
+
 #[test]
 fn calls_replayed_under_the_pattern(rt: HostRuntime) -> Result<(), Fail> {
     let mut answers = [Err(UNWRITTEN); 12];
-    let counts = replay_counts(pattern()?, &mut [9; 18], &two_flows(0, 1, 2), &mut answers);
+    let counts = pattern_replay_counts(&mut [9; 18], &two_flows(0, 1, 2), &mut answers)?;
     assert_eq!(rt; counts, Ok((10, 0)));
     assert_eq!(rt;
         answers.map(answer_parts),
@@ -652,12 +679,11 @@ fn calls_replayed_under_the_pattern(rt: HostRuntime) -> Result<(), Fail> {
 // With fewer places for answers than calls, the calls beyond them are left; where no board is made, all are.
 #[test]
 fn calls_that_are_left(rt: HostRuntime) -> Result<(), Fail> {
-    let pattern = pattern()?;
     let calls = two_flows(0, 1, 2);
     let mut answers = [Err(UNWRITTEN); 3];
-    let counts = replay_counts(pattern, &mut [9; 18], &calls, first_cells(&mut answers, 2));
+    let counts = pattern_replay_counts(&mut [9; 18], &calls, first_cells(&mut answers, 2))?;
     let before = answers;
-    let short = replay_counts(pattern, &mut [9; 17], &calls, &mut answers);
+    let short = pattern_replay_counts(&mut [9; 17], &calls, &mut answers)?;
     assert_eq!(rt; (counts, refusal_number(short)), (Ok((2, 1)), Some(3)));
     assert_eq!(rt;
         (before.map(answer_parts), answers == before),
