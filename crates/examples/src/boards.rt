@@ -1,18 +1,17 @@
-//! Boards that follow a recording, with and without measures: what each call answers, what is refused and by which number, and what a
+//! Boards that are handed calls, with and without measures: what each call answers, what is refused and by which number, and what a
 //! refusal leaves as it was.
-use super::reading::PATTERN;
+use super::reading::{other_labels, pattern};
 use causality::{Bare, Board, Payload};
 use grid::Grid;
 use history::{Answer, Call, Clock, Event, Marked, Post, Refusal};
 use measures::{
-    FlowCount, Judge, JudgedValue, Lengths, Measure, Measured, Pattern, Relabelling, Span, Verdict,
+    Fault, FlowCount, Judge, JudgedValue, Lengths, Measure, Measured, Pattern, Span, Verdict,
     mark_judged, replay,
 };
 use std::test::Fail;
-use text::Cursor;
 
 // The number of the refusal, if there is one.
-fn refused<T: Drop>(answered: Result<T, Refusal>) -> Option<u8> {
+fn refusal_number<T: Drop>(answered: Result<T, Refusal>) -> Option<u8> {
     answered.err().map(u8::from)
 }
 
@@ -20,6 +19,11 @@ fn refused<T: Drop>(answered: Result<T, Refusal>) -> Option<u8> {
 fn first_cells<T>(memory: &mut [T], count: usize) -> &mut [T] {
     let count = count.min(memory.len());
     &mut memory[..count]
+}
+
+// A board without measures, of that size.
+fn bare_board(units: usize, messages: usize) -> Result<Board<Bare>, Refusal> {
+    Board::of_size(Bare::new(), units, messages)
 }
 
 // How much of a memory is lent: the cells and the widths of the grids of clocks, flags and values, and the places for messages.
@@ -114,12 +118,12 @@ where
     P: Drop,
 {
     [
-        refused(board.send(clocks, flags, values, posts, 2, 9)),
-        refused(board.receive(clocks, flags, values, posts, 2, 9)),
-        refused(board.mark(clocks, flags, values, posts, 2, 9)),
-        refused(board.state(clocks, flags, values, posts, 9)),
-        refused(board.left(clocks, flags, values, posts)),
-        refused(Board::make(payload, 2, 2, clocks, flags, values, posts)),
+        refusal_number(board.send(clocks, flags, values, posts, 2, 9)),
+        refusal_number(board.receive(clocks, flags, values, posts, 2, 9)),
+        refusal_number(board.mark(clocks, flags, values, posts, 2, 9)),
+        refusal_number(board.state(clocks, flags, values, posts, 9)),
+        refusal_number(board.left(clocks, flags, values, posts)),
+        refusal_number(Board::make(payload, 2, 2, clocks, flags, values, posts)),
     ]
 }
 
@@ -185,6 +189,13 @@ impl Memory {
         board.hand(clocks, flags, values, posts, call)
     }
 
+    // What comes of a call: the number of its refusal, if it is refused, and whether the memory is then as it was.
+    fn outcome(&mut self, board: &Board<Measured<Pattern>>, call: Call) -> (Option<u8>, bool) {
+        let before = *self;
+        let number = refusal_number(self.hand(board, call));
+        (number, *self == before)
+    }
+
     // A unit of that board makes a mark, which the pattern judges.
     fn judge(
         &mut self,
@@ -225,48 +236,55 @@ impl Memory {
     }
 }
 
-// Sizes that a board cannot have, and sizes for which there is no memory here.
+// The number of the refusal of a board of that size, which is lent no memory but for values.
+fn size_refusal<P: Payload>(
+    payload: P,
+    units: usize,
+    messages: usize,
+    values: &mut [P::Value],
+) -> Option<u8>
+where
+    P: Drop,
+{
+    let clocks = &mut Grid::new(&mut [], units);
+    let flags = &mut Grid::new(&mut [], units);
+    let values = &mut Grid::new(values, units);
+    let made = Board::make(payload, units, messages, clocks, flags, values, &mut []);
+    refusal_number(made)
+}
+
+// Sizes that a board cannot have, and sizes for which there is no memory here, each with the number of the refusal.
+const SIZES: [(usize, usize, u8); 8] = [
+    (0, 0, 1),
+    (17, 0, 1),
+    (0, 256, 1),
+    (17, 256, 1),
+    (1, 256, 2),
+    (16, 256, 2),
+    (1, 0, 3),
+    (16, 255, 3),
+];
+
 #[test]
 fn sizes_that_are_refused(rt: HostRuntime) -> Result<(), Fail> {
-    let count = FlowCount::new(1)?;
-    for (units, messages, number) in [
-        (0, 0, 1),
-        (17, 0, 1),
-        (0, 256, 1),
-        (17, 256, 1),
-        (1, 256, 2),
-        (16, 256, 2),
-        (1, 0, 3),
-        (16, 255, 3),
-    ] {
-        let clocks = &mut Grid::new(&mut [], units);
-        let flags = &mut Grid::new(&mut [], units);
-        let values = &mut Grid::new(&mut [], units);
-        let nothing = &mut Grid::new(&mut [], units);
-        let bare = Board::make(
-            Bare::new(),
-            units,
-            messages,
-            clocks,
-            flags,
-            nothing,
-            &mut [],
+    let measure = FlowCount::new(1)?;
+    for (units, messages, number) in SIZES {
+        assert_eq!(rt;
+            [
+                size_refusal(Bare::new(), units, messages, &mut []),
+                size_refusal(Measured { measure }, units, messages, &mut []),
+            ],
+            [Some(number); 2]
         );
-        let made = Board::make(
-            Measured { measure: count },
-            units,
-            messages,
-            clocks,
-            flags,
-            values,
-            &mut [],
-        );
-        assert_eq!(rt; refused(bare), Some(number));
-        assert_eq!(rt; refused(made), Some(number));
     }
-    assert_eq!(rt; refused(Board::of_size(Bare::new(), 0, 256)), Some(1));
-    assert_eq!(rt; refused(Board::of_size(Bare::new(), 16, 256)), Some(2));
-    assert_eq!(rt; refused(Board::of_size(Bare::new(), 16, 255)), None);
+    assert_eq!(rt;
+        [
+            refusal_number(bare_board(0, 256)),
+            refusal_number(bare_board(16, 256)),
+            refusal_number(bare_board(16, 255)),
+        ],
+        [Some(1), Some(2), None]
+    );
     Ok(())
 }
 
@@ -282,41 +300,53 @@ fn largest(cells: usize) -> Result<Board<Bare>, Refusal> {
 
 #[test]
 fn the_largest_board(rt: HostRuntime) {
-    assert_eq!(rt; refused(largest(4336)), None);
-    assert_eq!(rt; refused(largest(4335)), Some(3));
+    assert_eq!(rt;
+        [
+            refusal_number(largest(4336)),
+            refusal_number(largest(4335)),
+        ],
+        [None, Some(3)]
+    );
 }
 
 // Memory is asked for before all else, and nothing is written where it is too short.
 #[test]
 fn memory_that_is_too_short(rt: HostRuntime) -> Result<(), Fail> {
-    let pattern = Pattern::read(&PATTERN)?;
+    let pattern = pattern()?;
     let mut memory = WRITTEN_BEFORE;
     let made = memory.make(pattern)?;
-    let bare = Board::of_size(Bare::new(), 2, 2)?;
+    let bare = bare_board(2, 2)?;
     memory = WRITTEN_BEFORE;
     for lent in SHORT {
-        assert_eq!(rt; memory.refusals(&bare, lent), [Some(3); 6]);
+        let answers = memory.refusals(&bare, lent);
+        let measured_answers = memory.measured_refusals(pattern, &made, lent);
         assert_eq!(rt;
-            memory.measured_refusals(pattern, &made, lent),
-            [Some(3); 6]
+            (answers, measured_answers, memory),
+            ([Some(3); 6], [Some(3); 6], WRITTEN_BEFORE)
         );
-        assert_eq!(rt; memory, WRITTEN_BEFORE);
     }
     for lent in SHORT_OF_VALUES {
-        assert_eq!(rt;
-            memory.measured_refusals(pattern, &made, lent),
-            [Some(3); 6]
-        );
-        assert_eq!(rt; memory, WRITTEN_BEFORE);
+        let answers = memory.measured_refusals(pattern, &made, lent);
+        assert_eq!(rt; (answers, memory), ([Some(3); 6], WRITTEN_BEFORE));
     }
+    Ok(())
+}
+
+// With just enough memory each call asks its next question, and the making of a board writes no cell beyond those that it needs.
+#[test]
+fn just_enough_memory(rt: HostRuntime) -> Result<(), Fail> {
+    let pattern = pattern()?;
+    let mut memory = WRITTEN_BEFORE;
+    let made = memory.make(pattern)?;
+    let bare = bare_board(2, 2)?;
+    memory = WRITTEN_BEFORE;
+    let measured_answers = memory.measured_refusals(pattern, &made, ENOUGH);
+    let values = memory.values;
+    let answers = memory.refusals(&bare, ENOUGH);
+    let asked = [Some(4), Some(4), Some(4), Some(5), None, None];
     assert_eq!(rt;
-        memory.measured_refusals(pattern, &made, ENOUGH),
-        [Some(4), Some(4), Some(4), Some(5), None, None]
-    );
-    assert_eq!(rt; memory.values, [1, 1, 1, 1, 1, 1, 1, 1, 9, 9, 9, 9]);
-    assert_eq!(rt;
-        memory.refusals(&bare, ENOUGH),
-        [Some(4), Some(4), Some(4), Some(5), None, None]
+        (answers, measured_answers, values),
+        (asked, asked, [1, 1, 1, 1, 1, 1, 1, 1, 9, 9, 9, 9])
     );
     Ok(())
 }
@@ -343,58 +373,74 @@ const QUESTIONS: [(usize, Event, Option<u8>); 14] = [
 #[test]
 fn questions_of_the_calls(rt: HostRuntime) -> Result<(), Fail> {
     let mut memory = WRITTEN_BEFORE;
-    let board = memory.make(Pattern::read(&PATTERN)?)?;
+    let board = memory.make(pattern()?)?;
     for (unit, event, number) in QUESTIONS {
-        let before = memory;
-        let answered = memory.hand(&board, Call { unit, event });
-        assert_eq!(rt; refused(answered), number);
-        assert_eq!(rt; number.is_some(), memory == before);
+        assert_eq!(rt;
+            memory.outcome(&board, Call { unit, event }),
+            (number, number.is_some())
+        );
     }
     Ok(())
+}
+
+// Makes a board of one unit and no message under a measure.
+fn board_of_one_unit<M: Measure>(
+    measure: M,
+    clocks: &mut [Clock],
+    flags: &mut [bool],
+    values: &mut [M::Value],
+) -> Result<Board<Measured<M>>, Refusal>
+where
+    M: Drop,
+{
+    let clocks = &mut Grid::new(clocks, 1);
+    let flags = &mut Grid::new(flags, 1);
+    let values = &mut Grid::new(values, 1);
+    Board::make(Measured { measure }, 1, 0, clocks, flags, values, &mut [])
+}
+
+// The own clock in the answer to a mark of the one unit, or the number of the refusal.
+fn mark_clock<P: Payload>(
+    board: &Board<P>,
+    clocks: &mut [Clock],
+    flags: &mut [bool],
+    values: &mut [P::Value],
+    label: u8,
+) -> Result<Clock, u8> {
+    let clocks = &mut Grid::new(clocks, 1);
+    let flags = &mut Grid::new(flags, 1);
+    let values = &mut Grid::new(values, 1);
+    match board.mark(clocks, flags, values, &[], 0, label) {
+        Ok(mark) => Ok(mark.clock),
+        Err(refusal) => Err(u8::from(refusal)),
+    }
 }
 
 // A unit's own clock goes up to 65,535; a label that the measure lacks is refused before a full clock.
 #[test]
 fn the_last_mark_of_a_unit(rt: HostRuntime) -> Result<(), Fail> {
     let (mut clocks, mut flags, mut values) = ([0], [false], [Lengths::default()]);
-    let clocks = &mut Grid::new(&mut clocks, 1);
-    let flags = &mut Grid::new(&mut flags, 1);
-    let values = &mut Grid::new(&mut values, 1);
-    let span = Span::new(1, 9)?;
-    let made = Board::make(
-        Measured { measure: span },
-        1,
-        0,
-        clocks,
-        flags,
-        values,
-        &mut [],
-    )?;
+    let made = board_of_one_unit(Span::new(1, 9)?, &mut clocks, &mut flags, &mut values)?;
     for clock in 1..=65535 {
-        let marked = made.mark(clocks, flags, values, &[], 0, 0)?;
-        assert_eq!(rt; marked.clock, clock);
+        assert_eq!(rt;
+            mark_clock(&made, &mut clocks, &mut flags, &mut values, 0),
+            Ok(clock)
+        );
     }
+    let bare = bare_board(1, 0)?;
+    assert_eq!(rt;
+        [
+            mark_clock(&made, &mut clocks, &mut flags, &mut values, 1),
+            mark_clock(&made, &mut clocks, &mut flags, &mut values, 0),
+            mark_clock(&bare, &mut clocks, &mut flags, &mut [()], 0),
+        ],
+        [Err(6), Err(10), Err(10)]
+    );
     let full = Lengths {
         shortest: 65535,
         longest: 65535,
     };
-    assert_eq!(rt;
-        refused(made.mark(clocks, flags, values, &[], 0, 1)),
-        Some(6)
-    );
-    assert_eq!(rt;
-        refused(made.mark(clocks, flags, values, &[], 0, 0)),
-        Some(10)
-    );
-    let bare = Board::of_size(Bare::new(), 1, 0)?;
-    let mut nothing = [()];
-    let nothing = &mut Grid::new(&mut nothing, 1);
-    assert_eq!(rt;
-        refused(bare.mark(clocks, flags, nothing, &[], 0, 0)),
-        Some(10)
-    );
-    assert_eq!(rt; clocks.cell(0, 0), Some(65535));
-    assert_eq!(rt; values.cell(0, 0), Some(full));
+    assert_eq!(rt; (clocks, values), ([65535], [full]));
     Ok(())
 }
 
@@ -410,89 +456,133 @@ const PLAYER_WAITS_FIRST: [(usize, Event, Clock, Option<(u64, u64)>); 7] = [
     (1, Event::Mark(2), 2, Some((1, 0x08))),
 ];
 
+// The same of a mark without its value.
+fn bare_mark(mark: Option<(u64, u64)>) -> Option<(u64, ())> {
+    mark.map(|(predecessors, _)| (predecessors, ()))
+}
+
 #[test]
 fn the_player_waits_first(rt: HostRuntime) -> Result<(), Fail> {
     let (mut memory, mut bare_memory) = (WRITTEN_BEFORE, WRITTEN_BEFORE);
-    let made = memory.make(Pattern::read(&PATTERN)?)?;
+    let made = memory.make(pattern()?)?;
     let bare = bare_memory.make_bare()?;
     for (unit, event, clock, mark) in PLAYER_WAITS_FIRST {
         let call = Call { unit, event };
-        let answered = memory.hand(&made, call);
-        assert_eq!(rt; answer_parts(answered), Ok((clock, mark)));
-        let bare_mark = mark.map(|(predecessors, _)| (predecessors, ()));
-        let bare_answered = bare_memory.hand_bare(&bare, call);
-        assert_eq!(rt; answer_parts(bare_answered), Ok((clock, bare_mark)));
+        assert_eq!(rt;
+            (
+                answer_parts(memory.hand(&made, call)),
+                answer_parts(bare_memory.hand_bare(&bare, call)),
+            ),
+            (Ok((clock, mark)), Ok((clock, bare_mark(mark))))
+        );
     }
-    assert_eq!(rt; bare_memory.clocks, memory.clocks);
-    assert_eq!(rt; bare_memory.flags, memory.flags);
-    assert_eq!(rt; bare_memory.posts, [Post::Delivered; 3]);
-    assert_eq!(rt; bare_memory.values, WRITTEN_BEFORE.values);
+    assert_eq!(rt;
+        bare_memory,
+        Memory {
+            posts: [Post::Delivered; 3],
+            values: WRITTEN_BEFORE.values,
+            ..memory
+        }
+    );
     Ok(())
 }
 
-// What a board says of itself while one message is on its way, with the measure and without it.
+// What a board says of itself: whether the memory is long enough, what became of a message, and how many are on their way.
+type Status = (bool, Result<Post, Refusal>, Result<usize, Refusal>);
+
+fn status<P: Payload>(
+    board: &Board<P>,
+    clocks: &Grid<'_, Clock>,
+    flags: &Grid<'_, bool>,
+    values: &Grid<'_, P::Value>,
+    posts: &[Post],
+    message: usize,
+) -> Status {
+    (
+        board.has_room(clocks, flags, values, posts),
+        board.state(clocks, flags, values, posts, message),
+        board.left(clocks, flags, values, posts),
+    )
+}
+
+impl Memory {
+    // What a board under the pattern says of itself, in just enough of the memory.
+    fn status(&mut self, board: &Board<Measured<Pattern>>, message: usize) -> Status {
+        let clocks = &Grid::new(first_cells(&mut self.clocks, 8), 2);
+        let flags = &Grid::new(first_cells(&mut self.flags, 8), 2);
+        let values = &Grid::new(first_cells(&mut self.values, 8), 2);
+        let posts = first_cells(&mut self.posts, 2);
+        status(board, clocks, flags, values, posts, message)
+    }
+
+    // The same of a board without measures.
+    fn bare_status(&mut self, board: &Board<Bare>, message: usize) -> Status {
+        let mut nothing = [(); 8];
+        let clocks = &Grid::new(first_cells(&mut self.clocks, 8), 2);
+        let flags = &Grid::new(first_cells(&mut self.flags, 8), 2);
+        let values = &Grid::new(&mut nothing, 2);
+        let posts = first_cells(&mut self.posts, 2);
+        status(board, clocks, flags, values, posts, message)
+    }
+}
+
+// While one message is on its way, with the measure and without it.
 #[test]
 fn a_message_on_its_way(rt: HostRuntime) -> Result<(), Fail> {
     let mut memory = WRITTEN_BEFORE;
-    let board = memory.make(Pattern::read(&PATTERN)?)?;
-    let bare = Board::of_size(Bare::new(), 2, 2)?;
+    let board = memory.make(pattern()?)?;
+    let bare = bare_board(2, 2)?;
     let call = Call {
         unit: 1,
         event: Event::Send(0),
     };
-    assert_eq!(rt; answer_parts(memory.hand(&board, call)), Ok((0, None)));
-    let clocks = &Grid::new(first_cells(&mut memory.clocks, 8), 2);
-    let flags = &Grid::new(first_cells(&mut memory.flags, 8), 2);
-    let values = &Grid::new(first_cells(&mut memory.values, 8), 2);
-    let posts = first_cells(&mut memory.posts, 2);
+    let sent = answer_parts(memory.hand(&board, call));
+    let statuses = [memory.status(&board, 0), memory.bare_status(&bare, 1)];
     assert_eq!(rt;
-        board.state(clocks, flags, values, posts, 0),
-        Ok(Post::OnItsWay)
+        (sent, statuses),
+        (
+            Ok((0, None)),
+            [
+                (true, Ok(Post::OnItsWay), Ok(1)),
+                (true, Ok(Post::Unsent), Ok(1)),
+            ],
+        )
     );
-    assert_eq!(rt; board.left(clocks, flags, values, posts), Ok(1));
-    let mut nothing = [(); 8];
-    let nothing = &Grid::new(&mut nothing, 2);
-    assert_eq!(rt; bare.has_room(clocks, flags, nothing, posts), true);
-    assert_eq!(rt;
-        bare.state(clocks, flags, nothing, posts, 1),
-        Ok(Post::Unsent)
-    );
-    assert_eq!(rt; bare.left(clocks, flags, nothing, posts), Ok(1));
     Ok(())
 }
 
 // Unit 1 tells unit 0 that it waits, and goes on waiting while unit 0 hears the beacon: one flow to the sound has the beacon, the other
 // has not.
+const ONE_FLOW_OF_TWO: [(usize, Event); 7] = [
+    (1, Event::Mark(1)),
+    (1, Event::Send(0)),
+    (0, Event::Receive(0)),
+    (0, Event::Mark(0)),
+    (0, Event::Send(1)),
+    (1, Event::Mark(1)),
+    (1, Event::Receive(1)),
+];
+
 #[test]
 fn one_flow_of_two_is_good(rt: HostRuntime) -> Result<(), Fail> {
     let mut memory = WRITTEN_BEFORE;
-    let board = memory.make(Pattern::read(&PATTERN)?)?;
-    for (unit, event) in [
-        (1, Event::Mark(1)),
-        (1, Event::Send(0)),
-        (0, Event::Receive(0)),
-        (0, Event::Mark(0)),
-        (0, Event::Send(1)),
-        (1, Event::Mark(1)),
-        (1, Event::Receive(1)),
-    ] {
+    let board = memory.make(pattern()?)?;
+    for (unit, event) in ONE_FLOW_OF_TWO {
         memory.hand(&board, Call { unit, event })?;
     }
-    let sound = memory.judge(&board, 1, 2)?;
-    let verdict = Verdict {
-        some: true,
-        all: false,
-    };
     assert_eq!(rt;
-        sound,
-        Marked {
+        memory.judge(&board, 1, 2),
+        Ok(Marked {
             clock: 3,
             predecessors: 3,
             value: JudgedValue {
                 value: 0x18,
-                verdict,
+                verdict: Verdict {
+                    some: true,
+                    all: false,
+                },
             },
-        }
+        })
     );
     Ok(())
 }
@@ -527,7 +617,7 @@ fn answer_parts<V: Copy>(
 }
 
 // Hands calls to a new board of 3 units and 3 messages. Answers how many were handed in and how many messages are then on their way.
-fn replayed<M: Measure>(
+fn replay_counts<M: Measure>(
     measure: M,
     values: &mut [M::Value],
     calls: &[Call],
@@ -545,19 +635,27 @@ where
     )?;
     let mut nothing = [(); 18];
     let nothing = &Grid::new(&mut nothing, 3);
-    let left = Board::of_size(Bare::new(), 3, 3)?.left(clocks, flags, nothing, &posts)?;
+    let left = bare_board(3, 3)?.left(clocks, flags, nothing, &posts)?;
     Ok((count, left))
 }
 
 // An answer place that no call has written: a refusal that no board gives.
 const UNWRITTEN: Refusal = Refusal::StampLength;
 
+// The same under the pattern.
+fn pattern_replay_counts(
+    values: &mut [u64],
+    calls: &[Call],
+    answers: &mut [Result<Answer<u64>, Refusal>],
+) -> Result<Result<(usize, usize), Refusal>, Fault> {
+    Ok(replay_counts(pattern()?, values, calls, answers))
+}
+
 #[test]
 fn calls_replayed_under_the_pattern(rt: HostRuntime) -> Result<(), Fail> {
-    let pattern = Pattern::read(&PATTERN)?;
     let mut answers = [Err(UNWRITTEN); 12];
-    let counts = replayed(pattern, &mut [9; 18], &two_flows(0, 1, 2), &mut answers)?;
-    assert_eq!(rt; counts, (10, 0));
+    let counts = pattern_replay_counts(&mut [9; 18], &two_flows(0, 1, 2), &mut answers)?;
+    assert_eq!(rt; counts, Ok((10, 0)));
     assert_eq!(rt;
         answers.map(answer_parts),
         [
@@ -581,20 +679,16 @@ fn calls_replayed_under_the_pattern(rt: HostRuntime) -> Result<(), Fail> {
 // With fewer places for answers than calls, the calls beyond them are left; where no board is made, all are.
 #[test]
 fn calls_that_are_left(rt: HostRuntime) -> Result<(), Fail> {
-    let pattern = Pattern::read(&PATTERN)?;
     let calls = two_flows(0, 1, 2);
     let mut answers = [Err(UNWRITTEN); 3];
+    let counts = pattern_replay_counts(&mut [9; 18], &calls, first_cells(&mut answers, 2))?;
+    let before = answers;
+    let short = pattern_replay_counts(&mut [9; 17], &calls, &mut answers)?;
+    assert_eq!(rt; (counts, refusal_number(short)), (Ok((2, 1)), Some(3)));
     assert_eq!(rt;
-        replayed(pattern, &mut [9; 18], &calls, &mut answers[..2])?,
-        (2, 1)
+        (before.map(answer_parts), answers == before),
+        ([Ok((1, Some((0, 0x02)))), Ok((1, None)), Err(12)], true)
     );
-    assert_eq!(rt;
-        answers.map(answer_parts),
-        [Ok((1, Some((0, 0x02)))), Ok((1, None)), Err(12)]
-    );
-    let short = replayed(pattern, &mut [9; 17], &calls, &mut answers);
-    assert_eq!(rt; refused(short), Some(3));
-    assert_eq!(rt; answer_parts(answers[0]), Ok((1, Some((0, 0x02)))));
     Ok(())
 }
 
@@ -602,36 +696,45 @@ fn calls_that_are_left(rt: HostRuntime) -> Result<(), Fail> {
 #[test]
 fn the_last_mark_under_other_measures(rt: HostRuntime) -> Result<(), Fail> {
     let calls = two_flows(0, 1, 2);
-    let mut counts = [Err(UNWRITTEN); 10];
-    replayed(FlowCount::new(3)?, &mut [9; 18], &calls, &mut counts)?;
-    assert_eq!(rt; answer_parts(counts[9]), Ok((2, Some((5, 2)))));
-    let both = Lengths {
-        shortest: 2,
-        longest: 3,
-    };
     let written = Lengths {
         shortest: 9,
         longest: 9,
     };
+    let both = Lengths {
+        shortest: 2,
+        longest: 3,
+    };
+    let count = FlowCount::new(3)?;
+    let span = Span::new(3, 2)?;
+    let relabelling = other_labels()?;
+    let mut counts = [Err(UNWRITTEN); 10];
     let mut spans = [Err(UNWRITTEN); 10];
-    replayed(Span::new(3, 2)?, &mut [written; 18], &calls, &mut spans)?;
-    assert_eq!(rt; answer_parts(spans[9]), Ok((2, Some((5, both)))));
-    let pattern = Pattern::read(&PATTERN)?;
-    let relabelling = Relabelling::read(
-        Cursor {
-            input: &[0x30, 3, 1, 2, 0],
-            place: 0,
-        },
-        pattern,
-    )?;
     let mut sets = [Err(UNWRITTEN); 10];
-    replayed(relabelling, &mut [9; 18], &two_flows(2, 0, 1), &mut sets)?;
-    assert_eq!(rt; answer_parts(sets[9]), Ok((2, Some((5, 0x18)))));
+    assert_eq!(rt;
+        [
+            replay_counts(count, &mut [9; 18], &calls, &mut counts),
+            replay_counts(span, &mut [written; 18], &calls, &mut spans),
+            replay_counts(relabelling, &mut [9; 18], &two_flows(2, 0, 1), &mut sets),
+        ],
+        [Ok((10, 0)); 3]
+    );
+    assert_eq!(rt;
+        (
+            answer_parts(counts[9]),
+            answer_parts(spans[9]),
+            answer_parts(sets[9]),
+        ),
+        (
+            Ok((2, Some((5, 2)))),
+            Ok((2, Some((5, both)))),
+            Ok((2, Some((5, 0x18)))),
+        )
+    );
     Ok(())
 }
 
 // The judge's verdict on the last of a unit's marks, which are all that there is.
-fn judged<J: Judge>(
+fn last_verdict<J: Judge>(
     judge: J,
     values: &mut [J::Value],
     labels: &[u8],
@@ -670,24 +773,17 @@ fn marks_judged(rt: HostRuntime) -> Result<(), Fail> {
         some: false,
         all: false,
     };
-    let pattern = Pattern::read(&PATTERN)?;
-    let relabelling = Relabelling::read(
-        Cursor {
-            input: &[0x30, 3, 1, 2, 0],
-            place: 0,
-        },
-        pattern,
-    )?;
+    let relabelling = other_labels()?;
     let span = Span::new(3, 2)?;
-    assert_eq!(rt; judged(relabelling, &mut [0], &[0, 2, 1])?, Some(good));
-    assert_eq!(rt; judged(relabelling, &mut [0], &[0, 2])?, Some(bad));
+    let start = Lengths::default();
     assert_eq!(rt;
-        judged(span, &mut [Lengths::default()], &[1, 0])?,
-        Some(good)
-    );
-    assert_eq!(rt;
-        judged(span, &mut [Lengths::default()], &[1, 0, 2])?,
-        Some(bad)
+        [
+            last_verdict(relabelling, &mut [0], &[0, 2, 1]),
+            last_verdict(relabelling, &mut [0], &[0, 2]),
+            last_verdict(span, &mut [start], &[1, 0]),
+            last_verdict(span, &mut [start], &[1, 0, 2]),
+        ],
+        [Ok(Some(good)), Ok(Some(bad)), Ok(Some(good)), Ok(Some(bad))]
     );
     Ok(())
 }

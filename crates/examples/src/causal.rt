@@ -1,29 +1,34 @@
 //! Messages that move on, stamps that are compared, rows that are copied and merged, and what marks are worth.
-use super::reading::PATTERN;
+use super::reading::pattern;
 use bitset::take_positions;
-use causality::{Bare, Board, Stamp, compare, merge_cell};
+use causality::{Bare, Board, Payload, Stamp, compare, merge_cell};
 use grid::{Grid, put};
-use history::{Cell, Clock, Handling, Post};
-use measures::{FlowCount, Lengths, Measured, Pattern, Span, mark_value};
+use history::{Cell, Clock, Handling, Letter, Post, Refusal};
+use measures::{FlowCount, Lengths, Measure, Measured, Span, mark_value};
 use std::test::Fail;
 
 // The number of the state that a message moves to, or the refusal's.
-fn handled(post: Post, handling: Handling) -> Result<u8, u8> {
+fn handling_number(post: Post, handling: Handling) -> Result<u8, u8> {
     post.after(handling).map(u8::from).map_err(u8::from)
 }
 
 #[test]
 fn a_message_is_sent_once_and_received_once(rt: HostRuntime) {
-    assert_eq!(rt; handled(Post::Unsent, Handling::Sending), Ok(1));
-    assert_eq!(rt; handled(Post::OnItsWay, Handling::Receiving), Ok(2));
-    assert_eq!(rt; handled(Post::OnItsWay, Handling::Sending), Err(7));
-    assert_eq!(rt; handled(Post::Delivered, Handling::Sending), Err(7));
-    assert_eq!(rt; handled(Post::Unsent, Handling::Receiving), Err(8));
-    assert_eq!(rt; handled(Post::Delivered, Handling::Receiving), Err(9));
+    assert_eq!(rt;
+        [
+            handling_number(Post::Unsent, Handling::Sending),
+            handling_number(Post::OnItsWay, Handling::Receiving),
+            handling_number(Post::OnItsWay, Handling::Sending),
+            handling_number(Post::Delivered, Handling::Sending),
+            handling_number(Post::Unsent, Handling::Receiving),
+            handling_number(Post::Delivered, Handling::Receiving),
+        ],
+        [Ok(1), Ok(2), Err(7), Err(7), Err(8), Err(9)]
+    );
 }
 
 // The number of the answer for the stamps p of unit i and q of unit j, or the refusal's.
-fn compared(p: &[Clock], q: &[Clock], i: usize, j: usize) -> Result<u8, u8> {
+fn order_number(p: &[Clock], q: &[Clock], i: usize, j: usize) -> Result<u8, u8> {
     let p = Stamp { clocks: p, unit: i };
     let q = Stamp { clocks: q, unit: j };
     compare(p, q).map(u8::from).map_err(u8::from)
@@ -37,24 +42,39 @@ fn three_flows_into_one_mark(rt: HostRuntime) {
     let b = [2, 0, 0];
     let c = [3, 2, 1];
     let e = [1, 1, 1];
-    assert_eq!(rt; compared(&a, &a, 0, 0), Ok(0));
-    assert_eq!(rt; compared(&a, &c, 0, 0), Ok(1));
-    assert_eq!(rt; compared(&c, &a, 0, 0), Ok(2));
-    assert_eq!(rt; compared(&b, &e, 0, 1), Ok(3));
-    assert_eq!(rt; compared(&e, &c, 1, 0), Ok(1));
-    assert_eq!(rt; compared(&c, &e, 0, 1), Ok(2));
+    assert_eq!(rt;
+        [
+            order_number(&a, &a, 0, 0),
+            order_number(&a, &c, 0, 0),
+            order_number(&c, &a, 0, 0),
+            order_number(&b, &e, 0, 1),
+            order_number(&e, &c, 1, 0),
+            order_number(&c, &e, 0, 1),
+        ],
+        [Ok(0), Ok(1), Ok(2), Ok(3), Ok(1), Ok(2)]
+    );
 }
 
 #[test]
 fn comparisons_that_are_refused(rt: HostRuntime) {
     let most = [1; 16];
     let long = [1; 17];
-    assert_eq!(rt; compared(&[], &[], 0, 0), Err(12));
-    assert_eq!(rt; compared(&[1], &[1, 0], 0, 0), Err(12));
-    assert_eq!(rt; compared(&long, &long, 17, 0), Err(12));
-    assert_eq!(rt; compared(&[1, 0], &[1, 0], 2, 0), Err(4));
-    assert_eq!(rt; compared(&[1, 0], &[1, 0], 0, 2), Err(4));
-    assert_eq!(rt; compared(&most, &most, 15, 0), Ok(1));
+    assert_eq!(rt;
+        [
+            order_number(&[], &[], 0, 0),
+            order_number(&[1], &[1, 0], 0, 0),
+            order_number(&long, &long, 17, 0),
+            order_number(&[1, 0], &[1, 0], 2, 0),
+            order_number(&[1, 0], &[1, 0], 0, 2),
+            order_number(&most, &most, 15, 0),
+        ],
+        [Err(12), Err(12), Err(12), Err(4), Err(4), Ok(1)]
+    );
+}
+
+// What a unit has of another, once it meets a cell of a message.
+fn met_cell<V: Copy>(start: V, old: Cell<V>, new: Cell<V>) -> Cell<V> {
+    merge_cell(start, old, new)
 }
 
 #[test]
@@ -74,33 +94,87 @@ fn cells_that_meet(rt: HostRuntime) {
         flag: false,
         value: (),
     };
-    assert_eq!(rt; merge_cell((), old, new), new);
-    assert_eq!(rt; merge_cell((), new, old), new);
-    assert_eq!(rt; merge_cell((), old, passed), passed);
-    assert_eq!(rt; merge_cell((), new, new), new);
-    assert_eq!(rt; merge_cell((), new, passed), passed);
-    assert_eq!(rt; merge_cell((), passed, new), passed);
+    assert_eq!(rt;
+        [
+            met_cell((), old, new),
+            met_cell((), new, old),
+            met_cell((), old, passed),
+            met_cell((), new, new),
+            met_cell((), new, passed),
+            met_cell((), passed, new),
+        ],
+        [new, new, passed, new, passed, passed]
+    );
+}
+
+// What a receipt answers on a board of that size, whose grids lie in these cells.
+fn receipt<P: Payload>(
+    payload: P,
+    units: usize,
+    messages: usize,
+    clocks: &mut [Clock],
+    flags: &mut [bool],
+    values: &mut [P::Value],
+    posts: &mut [Post],
+    unit: usize,
+    message: usize,
+) -> Result<Clock, Refusal>
+where
+    P: Drop,
+{
+    let clocks = &mut Grid::new(clocks, units);
+    let flags = &mut Grid::new(flags, units);
+    let values = &mut Grid::new(values, units);
+    let board = Board::of_size(payload, units, messages)?;
+    board.receive(clocks, flags, values, posts, unit, message)
+}
+
+// What is answered where unit 0 of a board of 2 units receives the one message.
+fn news_receipt<M: Measure>(
+    measure: M,
+    clocks: &mut [Clock],
+    flags: &mut [bool],
+    values: &mut [M::Value],
+) -> Result<Clock, Refusal>
+where
+    M: Drop,
+{
+    let mut posts = [Post::OnItsWay];
+    receipt(
+        Measured { measure },
+        2,
+        1,
+        clocks,
+        flags,
+        values,
+        &mut posts,
+        0,
+        0,
+    )
 }
 
 // Unit 0 marked and sent messages 0 and 1; unit 1 received 0, marked and sent 2; unit 2 received 1 and now receives 2, which overtook it.
 // Rows of three cells: units 0 to 2, messages 0 to 2, and one cell that is not the board's.
 #[test]
-fn a_message_overtaken_by_an_indirect_one(rt: HostRuntime) -> Result<(), Fail> {
+fn a_message_overtaken_by_an_indirect_one(rt: HostRuntime) {
     let mut clocks = [1, 0, 0, 1, 1, 0, 1, 0, 0, 1, 0, 0, 1, 0, 0, 1, 1, 0, 7];
     let mut flags = [
         true, false, false, false, true, false, true, false, false, true, false, false, true,
         false, false, false, true, false, true,
     ];
-    let mut clock_rows = Grid::new(&mut clocks, 3);
-    let mut flag_rows = Grid::new(&mut flags, 3);
     let mut posts = [Post::Delivered, Post::OnItsWay, Post::OnItsWay];
-    let mut nothing = [(); 18];
-    let nothing = &mut Grid::new(&mut nothing, 3);
-    let board = Board::of_size(Bare::new(), 3, 3)?;
-    assert_eq!(rt;
-        board.receive(&mut clock_rows, &mut flag_rows, nothing, &mut posts, 2, 2),
-        Ok(0)
+    let answer = receipt(
+        Bare::new(),
+        3,
+        3,
+        &mut clocks,
+        &mut flags,
+        &mut [(); 18],
+        &mut posts,
+        2,
+        2,
     );
+    assert_eq!(rt; answer, Ok(0));
     assert_eq!(rt;
         clocks,
         [1, 0, 0, 1, 1, 0, 1, 1, 0, 1, 0, 0, 1, 0, 0, 1, 1, 0, 7]
@@ -112,13 +186,11 @@ fn a_message_overtaken_by_an_indirect_one(rt: HostRuntime) -> Result<(), Fail> {
             false, false, false, true, false, true,
         ]
     );
-    Ok(())
 }
 
 // A unit that has received two messages from one mark counts that mark's flows once.
 #[test]
 fn two_messages_from_one_mark(rt: HostRuntime) -> Result<(), Fail> {
-    let count = FlowCount::new(1)?;
     let flagged = Cell {
         clock: 1,
         flag: true,
@@ -129,32 +201,58 @@ fn two_messages_from_one_mark(rt: HostRuntime) -> Result<(), Fail> {
         flag: false,
         value: 1,
     };
-    assert_eq!(rt; merge_cell(1, flagged, flagged).value, 5);
-    assert_eq!(rt; merge_cell(1, flagged, passed).value, 1);
+    assert_eq!(rt;
+        [
+            met_cell(1, flagged, flagged).value,
+            met_cell(1, flagged, passed).value,
+        ],
+        [5, 1]
+    );
     let mut clocks = [1, 0, 1, 0, 2, 1];
     let mut flags = [true, false, true, false, true, true];
     let mut values = [5, 1, 5, 1, 3, 4, 9];
-    let clock_rows = &mut Grid::new(&mut clocks, 2);
-    let flag_rows = &mut Grid::new(&mut flags, 2);
-    let value_rows = &mut Grid::new(&mut values, 2);
-    let mut posts = [Post::OnItsWay];
-    let board = Board::of_size(Measured { measure: count }, 2, 1)?;
-    assert_eq!(rt;
-        board.receive(clock_rows, flag_rows, value_rows, &mut posts, 0, 0),
-        Ok(2)
-    );
-    assert_eq!(rt; values, [3, 4, 5, 1, 3, 4, 9]);
+    let count = FlowCount::new(1)?;
+    let answer = news_receipt(count, &mut clocks, &mut flags, &mut values);
+    assert_eq!(rt; (answer, values), (Ok(2), [3, 4, 5, 1, 3, 4, 9]));
     Ok(())
 }
 
-// A mark joins the values of its immediate predecessors; one that has none begins a flow.
+// The positions of the flags that are set, which are then set no more.
+fn taken_positions(flags: &mut [bool]) -> u64 {
+    take_positions(flags)
+}
+
 #[test]
-fn marks_join_the_flows_before_them(rt: HostRuntime) -> Result<(), Fail> {
+fn positions_of_flags(rt: HostRuntime) {
     let mut flags = [true, false, true];
     let mut many = [true; 65];
+    assert_eq!(rt;
+        [
+            taken_positions(&mut flags),
+            taken_positions(&mut flags),
+            taken_positions(&mut many),
+        ],
+        [5, 0, u64::MAX]
+    );
+    assert_eq!(rt; many, [false; 65]);
+}
+
+// The value of a mark.
+fn worth<M: Measure>(
+    measure: &M,
+    predecessors: u64,
+    values: &[M::Value],
+    label: Letter,
+) -> M::Value {
+    mark_value(measure, predecessors, values, label)
+}
+
+// A mark joins the values of its immediate predecessors, here of units 0 and 2; one that has none begins a flow.
+#[test]
+fn marks_join_the_flows_before_them(rt: HostRuntime) -> Result<(), Fail> {
     let count = FlowCount::new(1)?;
     let span = Span::new(3, 9)?;
-    let pattern = Pattern::read(&PATTERN)?;
+    let pattern = pattern()?;
     let short = Lengths {
         shortest: 1,
         longest: 1,
@@ -163,23 +261,28 @@ fn marks_join_the_flows_before_them(rt: HostRuntime) -> Result<(), Fail> {
         shortest: 2,
         longest: 3,
     };
-    let set = take_positions(&mut flags);
-    assert_eq!(rt; set, 5);
-    assert_eq!(rt; take_positions(&mut flags), 0);
-    assert_eq!(rt; take_positions(&mut many), u64::MAX);
-    assert_eq!(rt; many, [false; 65]);
-    assert_eq!(rt; mark_value(&count, set, &[2, 7, 1], 0), 3);
-    assert_eq!(rt; mark_value(&count, 0, &[2, 7, 1], 0), 1);
-    assert_eq!(rt; mark_value(&count, 1 << 63 | 1, &[2, 7, 1], 0), 3);
     assert_eq!(rt;
-        mark_value(&span, set, &[short, Lengths::default(), long], 2),
+        [
+            worth(&count, 5, &[2, 7, 1], 0),
+            worth(&count, 0, &[2, 7, 1], 0),
+            worth(&count, 1 << 63 | 1, &[2, 7, 1], 0),
+        ],
+        [3, 1, 3]
+    );
+    assert_eq!(rt;
+        worth(&span, 5, &[short, Lengths::default(), long], 2),
         Lengths {
             shortest: 2,
             longest: 4,
         }
     );
-    assert_eq!(rt; mark_value(&pattern, set, &[0x02, 0x01, 0x04], 2), 0x18);
-    assert_eq!(rt; mark_value(&pattern, 0, &[0x02, 0x01, 0x04], 1), 0x02);
+    assert_eq!(rt;
+        [
+            worth(&pattern, 5, &[0x02, 0x01, 0x04], 2),
+            worth(&pattern, 0, &[0x02, 0x01, 0x04], 1),
+        ],
+        [0x18, 0x02]
+    );
     Ok(())
 }
 
@@ -191,48 +294,52 @@ const NEWS: ([Clock; 6], [bool; 6]) = (
 
 // One grid type for state sets and for spans: a new row, a send that copies one and a receipt that takes what is newer.
 #[test]
-fn rows_of_every_kind(rt: HostRuntime) -> Result<(), Fail> {
-    let pattern = Pattern::read(&PATTERN)?;
-    let span = Span::new(3, 9)?;
-    let (mut clocks, mut flags) = NEWS;
+fn rows_of_a_grid(rt: HostRuntime) {
+    let mut cells = [9, 9, 0x01, 0x04, 9, 9, 9];
+    let rows = &mut Grid::new(&mut cells, 2);
+    rows.fill_rows(4, 0x02);
+    let unfilled = rows.cell(0, 1);
+    rows.fill_rows(1, 0x02);
+    assert_eq!(rt; [unfilled, rows.cell(0, 1)], [Some(9), Some(0x02)]);
+    assert_eq!(rt; [rows.row(0), rows.row(3)], [Some(&[0x02, 0x02][..]), None]);
+}
+
+// Makes row 0 new, copies row 1 to row 2, and copies nothing from a row that is not there.
+fn write_rows(sets: &mut [u64]) {
+    let rows = &mut Grid::new(sets, 2);
+    rows.fill_rows(1, 0x01);
+    rows.copy_row(1, 2);
+    rows.copy_row(3, 2);
+}
+
+#[test]
+fn rows_of_state_sets(rt: HostRuntime) -> Result<(), Fail> {
     let mut sets = [9, 9, 0x01, 0x04, 9, 9, 9];
-    let mut ends = [Lengths::default(); 7];
-    let clock_rows = &mut Grid::new(&mut clocks, 2);
-    let flag_rows = &mut Grid::new(&mut flags, 2);
-    let set_rows = &mut Grid::new(&mut sets, 2);
-    set_rows.fill_rows(4, 0x02);
-    assert_eq!(rt; set_rows.cell(0, 1), Some(9));
-    set_rows.fill_rows(1, 0x02);
-    assert_eq!(rt; set_rows.cell(0, 1), Some(0x02));
-    assert_eq!(rt; set_rows.row(0), Some(&[0x02, 0x02][..]));
-    assert_eq!(rt; set_rows.row(3), None);
-    set_rows.fill_rows(1, 0x01);
-    set_rows.copy_row(1, 2);
-    set_rows.copy_row(3, 2);
-    let board = Board::of_size(Measured { measure: pattern }, 2, 1)?;
-    let mut posts = [Post::OnItsWay];
-    assert_eq!(rt;
-        board.receive(clock_rows, flag_rows, set_rows, &mut posts, 0, 0),
-        Ok(0)
-    );
-    assert_eq!(rt; sets, [0x01, 0x04, 0x01, 0x04, 0x01, 0x04, 9]);
+    write_rows(&mut sets);
     let (mut clocks, mut flags) = NEWS;
-    let clock_rows = &mut Grid::new(&mut clocks, 2);
-    let flag_rows = &mut Grid::new(&mut flags, 2);
-    let end_rows = &mut Grid::new(&mut ends, 2);
+    let answer = news_receipt(pattern()?, &mut clocks, &mut flags, &mut sets);
+    assert_eq!(rt;
+        (answer, sets),
+        (Ok(0), [0x01, 0x04, 0x01, 0x04, 0x01, 0x04, 9])
+    );
+    Ok(())
+}
+
+#[test]
+fn rows_of_spans(rt: HostRuntime) -> Result<(), Fail> {
     let two = Lengths {
         shortest: 2,
         longest: 2,
     };
-    put(end_rows.cells, 5, two);
-    put(end_rows.cells, 7, two);
-    let board = Board::of_size(Measured { measure: span }, 2, 1)?;
-    let mut posts = [Post::OnItsWay];
+    let mut ends = [Lengths::default(); 7];
+    put(&mut ends, 5, two);
+    put(&mut ends, 7, two);
+    let (mut clocks, mut flags) = NEWS;
+    let span = Span::new(3, 9)?;
+    let answer = news_receipt(span, &mut clocks, &mut flags, &mut ends);
     assert_eq!(rt;
-        board.receive(clock_rows, flag_rows, end_rows, &mut posts, 0, 0),
-        Ok(0)
+        (answer, [ends[0], ends[1]]),
+        (Ok(0), [Lengths::default(), two])
     );
-    assert_eq!(rt; ends[1], two);
-    assert_eq!(rt; ends[0], Lengths::default());
     Ok(())
 }

@@ -4,7 +4,7 @@ use text::Cursor;
 
 // Labels: 0 beacon, 1 waiting, 2 sound. A flow is good if it is made of rounds, one or more: a waiting, then waitings and beacons of which the
 // last is a beacon, then a sound.
-pub const PATTERN: [u8; 27] = [
+const PATTERN: [u8; 27] = [
     0x20, 5, 3, 0, 0x08, 0, 0, 0, 0, 0, 0, 0, 4, 1, 4, 2, 1, 4, 2, 1, 3, 4, 1, 4, 4, 4, 4,
 ];
 
@@ -44,11 +44,25 @@ const BAD_RELABELLINGS: [(usize, u8, u8, usize); 8] = [
 ];
 
 // The pattern, and the relabelling after it.
-fn relabelled() -> [u8; 32] {
+fn pattern_and_relabelling() -> [u8; 32] {
     let mut bytes = [0; 32];
     bytes[..27].copy_from_slice(&PATTERN);
     bytes[27..].copy_from_slice(&RELABELLING);
     bytes
+}
+
+/// The pattern of beacon, waiting and sound.
+pub fn pattern() -> Result<Pattern, Fault> {
+    Pattern::read(&PATTERN)
+}
+
+/// The same pattern under other labels: 0 waiting, 1 sound, 2 beacon.
+pub fn other_labels() -> Result<Relabelling<Pattern>, Fault> {
+    let cursor = Cursor {
+        input: &RELABELLING,
+        place: 0,
+    };
+    Relabelling::read(cursor, pattern()?)
 }
 
 // The number and place of a fault.
@@ -85,22 +99,32 @@ fn patterns_with_one_bad_byte(rt: HostRuntime) {
 
 #[test]
 fn patterns_cut_short(rt: HostRuntime) {
-    assert_eq!(rt; pattern_answer(&[]), Err((13, 0)));
     assert_eq!(rt;
-        pattern_answer(&[0x31, 0, 0, 0, 0, 0, 0, 0, 0, 0, 0]),
-        Err((13, 11))
+        [
+            pattern_answer(&[]),
+            pattern_answer(&[0x31, 0, 0, 0, 0, 0, 0, 0, 0, 0, 0]),
+            pattern_answer(&PATTERN[0..11]),
+            pattern_answer(&PATTERN[0..12]),
+            pattern_answer(&PATTERN[0..26]),
+            pattern_answer(&PATTERN),
+            pattern_answer(&pattern_and_relabelling()),
+        ],
+        [
+            Err((13, 0)),
+            Err((13, 11)),
+            Err((13, 11)),
+            Err((19, 12)),
+            Err((19, 26)),
+            Ok(27),
+            Ok(27),
+        ]
     );
-    assert_eq!(rt; pattern_answer(&PATTERN[0..11]), Err((13, 11)));
-    assert_eq!(rt; pattern_answer(&PATTERN[0..12]), Err((19, 12)));
-    assert_eq!(rt; pattern_answer(&PATTERN[0..26]), Err((19, 26)));
-    assert_eq!(rt; pattern_answer(&PATTERN), Ok(27));
-    assert_eq!(rt; pattern_answer(&relabelled()), Ok(27));
 }
 
 #[test]
 fn relabellings_with_one_bad_byte(rt: HostRuntime) {
     for (at, byte, number, place) in BAD_RELABELLINGS {
-        let mut bytes = relabelled();
+        let mut bytes = pattern_and_relabelling();
         if let Some(old) = bytes.get_mut(at) {
             *old = byte;
         }
@@ -110,9 +134,21 @@ fn relabellings_with_one_bad_byte(rt: HostRuntime) {
 
 #[test]
 fn relabellings_cut_short(rt: HostRuntime) {
-    assert_eq!(rt; relabelling_answer(&relabelled()[0..27]), Err((22, 27)));
-    assert_eq!(rt; relabelling_answer(&relabelled()[0..28]), Err((19, 28)));
-    assert_eq!(rt; relabelling_answer(&relabelled()[0..29]), Err((19, 29)));
-    assert_eq!(rt; relabelling_answer(&relabelled()[0..31]), Err((19, 31)));
-    assert_eq!(rt; relabelling_answer(&relabelled()), Ok(5));
+    let bytes = pattern_and_relabelling();
+    assert_eq!(rt;
+        [
+            relabelling_answer(&bytes[0..27]),
+            relabelling_answer(&bytes[0..28]),
+            relabelling_answer(&bytes[0..29]),
+            relabelling_answer(&bytes[0..31]),
+            relabelling_answer(&bytes),
+        ],
+        [
+            Err((22, 27)),
+            Err((19, 28)),
+            Err((19, 29)),
+            Err((19, 31)),
+            Ok(5),
+        ]
+    );
 }
