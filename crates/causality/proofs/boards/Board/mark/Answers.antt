@@ -1,4 +1,4 @@
-use Rattle.std.proofs.Common.{◌≡◌, ℕ, refl, ap, ◌∙◌, ◌+◌}
+use Rattle.std.proofs.Common.{ℕ, refl, ap, ◌∙◌, ◌+◌}
 use Rattle.causality.specs.Boards.{memory}
 use Rattle.causality.proofs.MarkFacts.{noted}
 use Rattle.causality.proofs.boards.Board.mark.Goals as goal
