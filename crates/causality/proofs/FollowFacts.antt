@@ -1,5 +1,5 @@
 -- Three ways to follow the rules: a call that is taken, one that is refused, and one that its memory is too short for.
-use Rattle.std.proofs.Common.{◌≡◌, ℕ, true, false, Some, None, Ok, Err, sym, refl, ap, ◌∙◌, subst, subst₂, Result}
+use Rattle.std.proofs.Common.{◌≡◌, ℕ, true, false, Some, None, Ok, Err, sym, refl, ap, ◌∙◌, subst, Result}
 use Rattle.history.specs.declared.refusals.Refusal.{Refusal}
 use Rattle.history.specs.declared.refusals.Refusal.TheVariants.{MemoryTooShort}
 use Rattle.history.specs.Rows.{Payload}
@@ -62,7 +62,3 @@ module _ {V : Type 0} (M : Payload V) (z : Size) where
       beyond = kept_beyond same;
       refused = λ r x. same;
     }
-
--- what a call owes is owed by the same call, by its parts, with the same answer
-pub obeys_same : {V : Type 0} {b : Setup V} {old new : Memory V} {c d : Call} {x y : Result (Answer V) Refusal} → c ≡ d → x ≡ y → Obeys b c old new x → Obeys b d old new y
-obeys_same {b = b} {old = old} {new = new} e f o = subst₂ (λ c x. Obeys b c old new x) e f o

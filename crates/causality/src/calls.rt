@@ -21,18 +21,19 @@ impl<P: Payload> Board<P> {
             (memory clocks.old flags.old values.old posts.old)
             (memory clocks.new flags.new values.new posts.new) result }
     {
+        let unit = call.unit;
         match call.event {
             Event::Send(message) => {
-                let own = self.send(clocks, flags, values, posts, call.unit, message)?;
-                Ok(Answer::Sent(own))
+                let sent = self.send(clocks, flags, values, posts, unit, message);
+                sent.map(|own| Answer::Sent(own))
             }
             Event::Receive(message) => {
-                let own = self.receive(clocks, flags, values, posts, call.unit, message)?;
-                Ok(Answer::Received(own))
+                let received = self.receive(clocks, flags, values, posts, unit, message);
+                received.map(|own| Answer::Received(own))
             }
             Event::Mark(label) => {
-                let marked = self.mark(clocks, flags, values, posts, call.unit, label)?;
-                Ok(Answer::Marked(marked))
+                let marked = self.mark(clocks, flags, values, posts, unit, label);
+                marked.map(|mark| Answer::Marked(mark))
             }
         }
     }
