@@ -1,5 +1,5 @@
 -- Three ways to follow the rules: a call that is taken, one that is refused, and one that its memory is too short for.
-use Rattle.std.proofs.Common.{◌≡◌, ℕ, true, false, Some, None, Ok, Err, sym, refl, ap, ◌∙◌, subst, Result}
+use Rattle.std.proofs.Common.{◌≡◌, ℕ, true, false, Some, None, Ok, Err, sym, refl, ap, ◌∙◌, subst}
 use Rattle.history.specs.declared.refusals.Refusal.{Refusal}
 use Rattle.history.specs.declared.refusals.Refusal.TheVariants.{MemoryTooShort}
 use Rattle.history.specs.Rows.{Payload}
@@ -7,7 +7,7 @@ use Rattle.history.specs.Runs.{Size}
 use Rattle.history.specs.declared.calls.Call.{Call}
 use Rattle.history.specs.Board.{Contents, refusal, contents_after, answer_to, next_contents, outcome}
 use Rattle.history.specs.declared.calls.Answer.{Answer}
-use Rattle.causality.specs.Boards.{Memory, Obeys, Setup, Shows, SameBeyond, FollowsRules}
+use Rattle.causality.specs.Boards.{Memory, Shows, SameBeyond, FollowsRules}
 
 -- memory that nothing wrote
 pub nothing_written : {V : Type 0} (start : V) (n k : ℕ) (a : Memory V) → SameBeyond start n k a a

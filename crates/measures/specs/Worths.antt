@@ -4,7 +4,7 @@ use Rattle.std.specs.Option.{unwrap_or}
 use Rattle.history.specs.Rows.{Payload}
 use Rattle.history.specs.declared.cells.Cell.{Cell}
 use Rattle.history.specs.Runs.{Size}
-use Rattle.causality.specs.Payloads.{PayloadRules}
+use Rattle.causality.specs.Payloads.{PayloadRules, payload_on}
 use Rattle.measures.specs.Words.{letter_of}
 use Rattle.measures.specs.Measures.{Meaning, fits}
 
@@ -25,14 +25,14 @@ module _ {V : Type 0} (m : Meaning V) where
   abbrev pub worth : ℕ → (ℕ → Cell V) → ℕ → ℕ → V
   worth n r u l = m.step (unwrap_or (flagged_join r n) m.start) (letter_of u l)
 
-  -- what the cells of a board of n units carry under the measure
+  -- what the cells of a board carry under the measure, and the labels that it has
+  abbrev pub measured_rules : PayloadRules V
+  measured_rules = record { start = m.start; make = worth; fits = fits m }
+
+  -- what the cells of a board of n units carry
   abbrev pub measured_payload : ℕ → Payload V
-  measured_payload n = record { start = m.start; make = worth n }
+  measured_payload n = payload_on measured_rules n
 
   -- the size of a board of n units and k messages under the measure, whose units can make so many marks
   abbrev pub measured_size : ℕ → ℕ → ℕ → Size
   measured_size n k limit = record { units = n; messages = k; fits = fits m; limit = limit }
-
-  -- what the cells of a board carry under the measure, and the labels that it has
-  abbrev pub measured_rules : PayloadRules V
-  measured_rules = record { start = m.start; make = worth; fits = fits m }

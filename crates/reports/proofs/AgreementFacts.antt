@@ -11,7 +11,7 @@ use Rattle.history.specs.Events.{Logs, at, IsSent, IsReceived}
 use Rattle.history.specs.Laws.{answers_of}
 use Rattle.history.specs.Rows.{Payload}
 use Rattle.history.specs.Runs.{Size, SameByUnit}
-use Rattle.history.specs.declared.Call.{Call}
+use Rattle.history.specs.declared.calls.Call.{Call}
 use Rattle.history.proofs.Promises.{how_many_one, by_calls}
 use Rattle.history.specs.Limits.{most_marks}
 use Rattle.measures.specs.Laws.{MarksValued}

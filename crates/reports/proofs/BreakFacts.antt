@@ -6,7 +6,7 @@ use Rattle.std.proofs.lemmas.List.{drop-drop, drop-take}
 use Rattle.history.specs.declared.refusals.Refusal.{Refusal}
 use Rattle.history.specs.Rows.{Payload}
 use Rattle.history.specs.Runs.{Size}
-use Rattle.history.specs.declared.Call.{Call}
+use Rattle.history.specs.declared.calls.Call.{Call}
 use Rattle.history.specs.Board.{History, new_history, new_contents, outcomes_from, refusal, run_from, contents_from}
 use Rattle.history.proofs.Promises.{by_calls, taken}
 use Rattle.history.specs.Limits.{most_marks}

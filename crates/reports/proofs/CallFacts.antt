@@ -9,7 +9,7 @@ use Rattle.history.specs.declared.calls.Answer.{Answer}
 use Rattle.history.specs.declared.calls.Event.{Event}
 use Rattle.history.specs.Rows.{Payload}
 use Rattle.history.specs.Runs.{Size}
-use Rattle.history.specs.declared.Call.{Call}
+use Rattle.history.specs.declared.calls.Call.{Call}
 use Rattle.history.specs.Limits.{most_marks}
 use Rattle.causality.specs.Boards.{left_among}
 use Rattle.measures.specs.Measures.{Meaning}

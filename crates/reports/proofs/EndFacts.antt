@@ -14,7 +14,7 @@ use Rattle.history.specs.Limits.{most_marks}
 use Rattle.history.specs.Messages.{is_on_its_way, Stated}
 use Rattle.history.specs.Rows.{Payload}
 use Rattle.history.specs.Runs.{Size, Possible, Continues, Run, silence, with_entry, by_unit, events_in}
-use Rattle.history.specs.declared.Call.{Call}
+use Rattle.history.specs.declared.calls.Call.{Call}
 use Rattle.history.specs.Board.{Contents, new_contents, new_history, next_contents, outcome, outcomes_from, run, accepted_calls, contents_from}
 use Rattle.history.specs.declared.calls.Answer.{Answer}
 use Rattle.history.proofs.Promises.{accepts_runs, exactly_like, on_its_way_stated}

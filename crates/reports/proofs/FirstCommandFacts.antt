@@ -3,7 +3,7 @@
 -- proof goes by `begins`, whichever the command is.
 use Rattle.std.proofs.Common.{◌≡◌, ℕ, List, [], ◌∷◌, Ok, Err, Result, ◌+◌, length, sym, refl, ap, ◌∙◌, subst, inl, inr, arith}
 use Rattle.std.proofs.lemmas.Bool.{cases_eq, ne_eqb}
-use Rattle.history.specs.declared.calls.Call as rules
+use Rattle.history.specs.declared.calls.Call as calls
 use Rattle.reports.specs.declared.commands.Command.{Command}
 use Rattle.reports.specs.declared.commands.Command.TheVariants.{Make, Call, End}
 use Rattle.reports.specs.declared.faults.Reason.{Reason}
@@ -90,20 +90,20 @@ begins bytes r is = subst (BeginsWith bytes) is (all bytes)
     all (b ∷ rest) = by_byte b rest
 
 -- A call takes three bytes, and a making too.
-pub length-call : (bytes : List ℕ) (c : rules.Call) (rest : List ℕ) → first_command bytes ≡ Ok (Call c, rest) → length bytes ≡ length rest + call_size
+pub length-call : (bytes : List ℕ) (c : calls.Call) (rest : List ℕ) → first_command bytes ≡ Ok (Call c, rest) → length bytes ≡ length rest + call_size
 length-call bytes c rest first = let (b, x, is, calls) = begins bytes _ first in ap length is ∙ (omega arith)
 
 pub length-making : (bytes : List ℕ) (n k : ℕ) (rest : List ℕ) → first_command bytes ≡ Ok (Make n k, rest) → length bytes ≡ length rest + making_size
 length-making bytes n k rest first = let (none, b, is, made) = begins bytes _ first in ap length is ∙ (omega arith)
 
 -- Where some bytes begin with a call, their first command is one.
-pub begins_call : (bytes : List ℕ) (c : rules.Call) (cs : List rules.Call) → calls_in bytes ≡ c ∷ cs → (r : rules.Call) × (rest : List ℕ) × (first_command bytes ≡ Ok (Call r, rest))
+pub begins_call : (bytes : List ℕ) (c : calls.Call) (cs : List calls.Call) → calls_in bytes ≡ c ∷ cs → (r : calls.Call) × (rest : List ℕ) × (first_command bytes ≡ Ok (Call r, rest))
 begins_call bytes c cs some = go (first_command bytes) refl
   where
     not_none : calls_in bytes ≡ [] → ⊥
     not_none none = cc
 
-    go : (r : Result (Command × List ℕ) Reason) → first_command bytes ≡ r → (d : rules.Call) × (rest : List ℕ) × (first_command bytes ≡ Ok (Call d, rest))
+    go : (r : Result (Command × List ℕ) Reason) → first_command bytes ≡ r → (d : calls.Call) × (rest : List ℕ) × (first_command bytes ≡ Ok (Call d, rest))
     go (Ok (Call d, rest)) is = (d, rest, is)
     go (Ok (Make n k, rest)) is = absurd (not_none (begins bytes _ is).0)
     go (Ok (End, rest)) is = absurd (not_none (begins bytes _ is))

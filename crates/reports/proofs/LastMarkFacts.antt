@@ -9,7 +9,7 @@ use Rattle.history.specs.declared.calls.Event.TheVariants.{Mark}
 use Rattle.history.specs.declared.calls.Event.{Event}
 use Rattle.history.specs.Rows.{Payload}
 use Rattle.history.specs.Runs.{Size, by_unit, with_entry, call, events_in}
-use Rattle.history.specs.declared.Call.{Call}
+use Rattle.history.specs.declared.calls.Call.{Call}
 use Rattle.history.specs.Board.{History, Reply, new_history, contents_after, answer_to, reply, refusal, run}
 use Rattle.history.specs.Laws.{run_events}
 use Rattle.history.proofs.Promises.{accepts_runs, entry_here, after_taken, run_push, replies_as_long}

@@ -7,7 +7,7 @@ use Rattle.history.specs.Marks.{tick}
 use Rattle.history.specs.Rows.{Payload}
 use Rattle.history.specs.declared.cells.Cell.{Cell}
 use Rattle.history.specs.Runs.{Size}
-use Rattle.history.specs.declared.Call.{Call}
+use Rattle.history.specs.declared.calls.Call.{Call}
 use Rattle.history.specs.Board.{History, contents_after, answer_to, answer_or_refusal, next_contents, refusal, outcomes_from, history_after, run_from}
 use Rattle.measures.specs.Measures.{Meaning}
 use Rattle.reports.specs.declared.lines.MarkLine.{MarkLine}

@@ -7,7 +7,7 @@ use Rattle.history.specs.Events.{Events}
 use Rattle.history.specs.declared.calls.Event.TheVariants.{Mark}
 use Rattle.history.specs.Rows.{Payload}
 use Rattle.history.specs.Runs.{Size, Run, by_unit, call, events_in}
-use Rattle.history.specs.declared.Call.{Call}
+use Rattle.history.specs.declared.calls.Call.{Call}
 use Rattle.history.specs.Board.{History, mark_answer, new_history, new_contents, refusal, run, history_after as next}
 use Rattle.history.proofs.Promises.{accepts_runs}
 use Rattle.history.specs.Limits.{most_marks}

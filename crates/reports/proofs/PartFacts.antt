@@ -13,7 +13,7 @@ use Rattle.reports.proofs.FrontFacts.{front_parts}
 use Rattle.reports.proofs.PrefixFacts.{AgreeTo, agree_part, same_bytes}
 use Rattle.reports.proofs.ReportFacts.{transcript_in-is}
 use Rattle.reports.proofs.SameFrontFacts.{front_within, same_recording_at, same_judge, same_front, front_kept}
-use Rattle.history.specs.declared.Call.{Call}
+use Rattle.history.specs.declared.calls.Call.{Call}
 use Rattle.reports.specs.declared.lines.MarkLine.{MarkLine}
 use Rattle.reports.proofs.CallFacts.{transcript_with}
 use Rattle.reports.proofs.CutFacts.{Cut}

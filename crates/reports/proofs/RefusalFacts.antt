@@ -7,7 +7,7 @@ use Rattle.history.specs.declared.refusals.Refusal.{Refusal}
 use Rattle.history.specs.Events.{Logs}
 use Rattle.history.specs.Rows.{Payload}
 use Rattle.history.specs.Runs.{Size, Possible, by_unit}
-use Rattle.history.specs.declared.Call.{Call}
+use Rattle.history.specs.declared.calls.Call.{Call}
 use Rattle.history.specs.Board.{new_history, new_contents, outcomes_from, refusal, run, contents_from}
 use Rattle.history.proofs.Promises.{accepts_runs}
 use Rattle.history.specs.Limits.{most_marks}

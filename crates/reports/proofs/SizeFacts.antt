@@ -21,7 +21,7 @@ use Rattle.history.specs.Laws.{MessageAnswered, answers_of}
 use Rattle.history.specs.Marks.{marks}
 use Rattle.history.specs.Rows.{Payload}
 use Rattle.history.specs.Runs.{Size, SameByUnit, by_unit}
-use Rattle.history.specs.declared.Call.{Call}
+use Rattle.history.specs.declared.calls.Call.{Call}
 use Rattle.history.proofs.Promises.{accepts_runs, messages_answered, replies_are_answers, replies_as_long}
 use Rattle.measures.specs.Laws.{Valued, MarksValued, join_over}
 use Rattle.measures.specs.Measures.{Meaning}

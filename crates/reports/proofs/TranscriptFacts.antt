@@ -3,7 +3,7 @@ use Rattle.std.proofs.Common.{◌≡◌, ℕ, ◌+◌, Bool, ◌⊎◌, true, Li
 use Rattle.history.specs.declared.refusals.Refusal.{Refusal}
 use Rattle.history.specs.Rows.{Payload}
 use Rattle.history.specs.Runs.{Size}
-use Rattle.history.specs.declared.Call.{Call}
+use Rattle.history.specs.declared.calls.Call.{Call}
 use Rattle.history.specs.Board.{History, Contents, new_contents, new_history, contents_after, answer_to, outcomes_from, if_taken, refusal, history_after, run_from, run, accepted_calls_from, contents_from}
 use Rattle.history.proofs.Promises.{by_calls}
 use Rattle.causality.specs.Boards.{make_refusal}

@@ -2,7 +2,7 @@
 use Rattle.std.specs.Prelude.{ℕ, if◌then◌else◌, List, [], ◌∷◌, Ok, Err, Result, Some, None, Option, ◌==◌}
 use Rattle.history.specs.declared.calls.Event.TheVariants.{Mark, Receive, Send}
 use Rattle.history.specs.declared.calls.Event.{Event}
-use Rattle.history.specs.declared.calls.Call as rules
+use Rattle.history.specs.declared.calls.Call as calls
 use Rattle.history.specs.Runs.{call}
 use Rattle.reports.specs.declared.commands.Command.{Command}
 use Rattle.reports.specs.declared.commands.Command.TheVariants.{Make, Call, End}
@@ -59,12 +59,12 @@ event_in b x =
     else None
 
 -- a first call and those after it, if it is one; else no calls
-abbrev pub calls_with_first : ℕ → Option Event → List rules.Call → List rules.Call
+abbrev pub calls_with_first : ℕ → Option Event → List calls.Call → List calls.Call
 calls_with_first u None cs = []
 calls_with_first u (Some e) cs = call u e ∷ cs
 
 -- The calls that some bytes begin with: sends, receipts and marks, of three bytes each, up to the first command that is none of them.
-abbrev pub calls_in : List ℕ → List rules.Call
+abbrev pub calls_in : List ℕ → List calls.Call
 calls_in [] = []
 calls_in (b ∷ []) = []
 calls_in (b ∷ (u ∷ [])) = []

@@ -11,7 +11,7 @@ use Rattle.history.specs.Flows.{Longest, word}
 use Rattle.history.specs.HappenedBefore.{Immediate}
 use Rattle.history.specs.Marks.{tick, marks}
 use Rattle.history.specs.Runs.{Size, call, Possible, Run, by_unit, events_in, SameByUnit}
-use Rattle.history.specs.declared.Call.{Call}
+use Rattle.history.specs.declared.calls.Call.{Call}
 use Rattle.history.specs.Limits.{most_marks}
 use Rattle.causality.specs.Boards.{make_refusal}
 use Rattle.measures.specs.Acceptance.{state_after, accepts}

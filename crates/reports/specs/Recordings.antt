@@ -5,7 +5,7 @@ use Rattle.history.specs.Board.{Contents, new_contents, outcomes_from, contents_
 use Rattle.history.specs.declared.calls.Answer.{Answer}
 use Rattle.history.specs.declared.calls.Answer.TheVariants.{Sent, Received, Marked as marked}
 use Rattle.history.specs.declared.calls.Marked.{Marked}
-use Rattle.history.specs.declared.Call.{Call}
+use Rattle.history.specs.declared.calls.Call.{Call}
 use Rattle.history.specs.Limits.{most_marks}
 use Rattle.causality.specs.Boards.{make_refusal, left_among}
 use Rattle.measures.specs.Measures.{Meaning}
