@@ -52,12 +52,12 @@ fn pattern_and_relabelling() -> [u8; 32] {
 }
 
 /// The pattern of beacon, waiting and sound.
-pub fn pattern() -> Result<Pattern, Fault> {
+pub(crate) fn pattern() -> Result<Pattern, Fault> {
     Pattern::read(&PATTERN)
 }
 
 /// The same pattern under other labels: 0 waiting, 1 sound, 2 beacon.
-pub fn other_labels() -> Result<Relabelling<Pattern>, Fault> {
+pub(crate) fn other_labels() -> Result<Relabelling<Pattern>, Fault> {
     let cursor = Cursor {
         input: &RELABELLING,
         place: 0,
