@@ -63,16 +63,21 @@ table_in b = take (states_in b * labels_in b) (drop head_size b)
 abbrev pub pattern_size : List ℕ → ℕ
 pattern_size b = head_size + states_in b * labels_in b
 
+-- What is wrong with a pattern's first byte, its numbers of states and of labels, its start state and its set of final states.
+abbrev pub numbers_fault : ℕ → ℕ → ℕ → ℕ → ℕ → Option Fault
+numbers_fault first states labels start finals =
+    ask (first == pattern_tag) (fault NotAPattern 0)
+    (ask (is_count states) (fault StateCount 1)
+    (ask (is_count labels) (fault LabelCount 2)
+    (ask (nat_lt start states) (fault StartState 3)
+    (ask (nat_lt finals (2 ^ states)) (fault FinalStates 4)
+    None))))
+
 -- What is wrong with a pattern's first twelve bytes.
 abbrev pub head_fault : List ℕ → Option Fault
 head_fault b =
     ask (nat_le head_size (length b)) (fault PatternTooShort (length b))
-    (ask (slice_index b 0 == pattern_tag) (fault NotAPattern 0)
-    (ask (is_count (states_in b)) (fault StateCount 1)
-    (ask (is_count (labels_in b)) (fault LabelCount 2)
-    (ask (nat_lt (start_in b) (states_in b)) (fault StartState 3)
-    (ask (nat_lt (finals_in b) (2 ^ states_in b)) (fault FinalStates 4)
-    None)))))
+    (numbers_fault (slice_index b 0) (states_in b) (labels_in b) (start_in b) (finals_in b))
 
 -- What is wrong with a pattern's bytes.
 abbrev pub pattern_fault : List ℕ → Option Fault

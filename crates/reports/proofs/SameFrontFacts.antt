@@ -2,14 +2,13 @@
 -- with the front of the one, nothing is with the other's. A part of an input that reaches past these bytes is a case.
 -- Each number that the formats read stands at a byte below the recording, or in a run of them, so it is the same in both. What a reader asks
 -- are questions about these numbers and about the length, so they have the same answers.
-use Rattle.std.proofs.Common.{◌≡◌, ℕ, ◌+◌, ◌*◌, ◌^◌, ◌<◌, ◌≤◌, Bool, true, ◌&&◌, List, length, drop, take, None, Option, nat_le, sym, ap, subst, ◌∙◌, arith, ◌==◌, nat_lt, slice_index}
+use Rattle.std.proofs.Common.{◌≡◌, ℕ, ◌+◌, ◌*◌, ◌<◌, ◌≤◌, Bool, true, ◌&&◌, List, length, drop, take, None, nat_le, sym, ap, subst, ◌∙◌, arith, ◌==◌, nat_lt, slice_index}
 use Rattle.std.specs.Option.{option_map}
 use Rattle.std.proofs.lemmas.Bool.Decides.{nat_tests}
 use Rattle.bitset.specs.Sets.{meets, within}
-use Rattle.measures.specs.declared.refusals.Fault.{Fault as reader_fault}
-use Rattle.measures.specs.declared.refusals.Refusal.TheVariants.{NotAPattern, StateCount, LabelCount, StartState, FinalStates}
+use Rattle.measures.specs.declared.refusals.Refusal.TheVariants.{LabelCount}
 use Rattle.measures.specs.Automata.{state_sets}
-use Rattle.measures.specs.Formats.{pattern_tag, relabelling_tag, head_size, relabelling_head_size, first_over, over_fault, table_fault, little_endian, states_in, labels_in, start_in, finals_in, table_in, head_fault, pattern_fault, relabelling_labels_in, entries_in, relabelling_head_fault, relabelling_fault, with_zeros}
+use Rattle.measures.specs.Formats.{relabelling_tag, head_size, relabelling_head_size, first_over, over_fault, table_fault, little_endian, states_in, labels_in, start_in, finals_in, table_in, numbers_fault, head_fault, pattern_fault, relabelling_labels_in, entries_in, relabelling_head_fault, relabelling_fault, with_zeros}
 use Rattle.measures.specs.Limits.{most_entries, most_labels}
 use Rattle.measures.specs.Measures.{Meaning}
 use Rattle.measures.specs.Refusals.{fault, ask, is_count}
@@ -57,18 +56,8 @@ module _ (b d : List ℕ) (p : ℕ) (agree : AgreeTo p b d) (within_b : p ≤ le
       or_none _ _ (relabelling_head_kept at (omega arith) head)
       (subst (λ (c : ℕ). table_fault d (at + relabelling_head_size) c n ≡ None) (sym (same_byte p b d agree (at + 1) (omega arith))) (table_kept (at + relabelling_head_size) (relabelling_labels_in b at) n inside table))
 
--- what is wrong with a pattern's first twelve bytes, if they are there
-abbrev head_rest : ℕ → ℕ → ℕ → ℕ → ℕ → Option reader_fault
-head_rest first states labels start finals =
-    ask (first == pattern_tag) (fault NotAPattern 0)
-    (ask (is_count states) (fault StateCount 1)
-    (ask (is_count labels) (fault LabelCount 2)
-    (ask (nat_lt start states) (fault StartState 3)
-    (ask (nat_lt finals (2 ^ states)) (fault FinalStates 4)
-    None))))
-
 -- the same numbers are as good
-head_same : (a c s t l m i j f g : ℕ) → a ≡ c → s ≡ t → l ≡ m → i ≡ j → f ≡ g → head_rest a s l i f ≡ None → head_rest c t m j g ≡ None
+head_same : (a c s t l m i j f g : ℕ) → a ≡ c → s ≡ t → l ≡ m → i ≡ j → f ≡ g → numbers_fault a s l i f ≡ None → numbers_fault c t m j g ≡ None
 head_same a c s t l m i j f g x y z w v none = rw (← x, ← y, ← z, ← w, ← v) none
 
 -- the measure of a pattern under a relabelling, by their parts
@@ -147,7 +136,7 @@ module _ (b d : List ℕ) (p : ℕ) (agree : AgreeTo p b d) (reaches : recording
     head_kept none =
         let within_d = reaches_too p b d agree within_b in
         ask_none _ _ _ (grind (arith, nat_tests)) (head_same _ _ _ _ _ _ _ _ _ _ (sym (same_byte p b d agree 0 (omega arith))) same_states same_labels same_start same_finals
-        (ask_parts _ _ (head_rest (slice_index b 0) (states_in b) (labels_in b) (start_in b) (finals_in b)) none).1)
+        (ask_parts _ _ (numbers_fault (slice_index b 0) (states_in b) (labels_in b) (start_in b) (finals_in b)) none).1)
 
     pattern_kept : pattern_fault b ≡ None → pattern_fault d ≡ None
     pattern_kept none =
