@@ -639,9 +639,6 @@ where
     Ok((count, left))
 }
 
-// An answer place that no call has written: a refusal that no board gives.
-const UNWRITTEN: Refusal = Refusal::StampLength;
-
 // The same under the pattern.
 fn pattern_replay_counts(
     values: &mut [u64],
@@ -650,6 +647,9 @@ fn pattern_replay_counts(
 ) -> Result<Result<(usize, usize), Refusal>, Fault> {
     Ok(replay_counts(pattern()?, values, calls, answers))
 }
+
+// An answer place that no call has written: a refusal that no board gives.
+const UNWRITTEN: Refusal = Refusal::StampLength;
 
 #[test]
 fn calls_replayed_under_the_pattern(rt: HostRuntime) -> Result<(), Fail> {

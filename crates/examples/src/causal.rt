@@ -292,7 +292,7 @@ const NEWS: ([Clock; 6], [bool; 6]) = (
     [false, false, false, true, false, true],
 );
 
-// One grid type for state sets and for spans: a new row, a send that copies one and a receipt that takes what is newer.
+// Rows are filled where all of them are there, and read where they are there.
 #[test]
 fn rows_of_a_grid(rt: HostRuntime) {
     let mut cells = [9, 9, 0x01, 0x04, 9, 9, 9];
@@ -303,6 +303,8 @@ fn rows_of_a_grid(rt: HostRuntime) {
     assert_eq!(rt; [unfilled, rows.cell(0, 1)], [Some(9), Some(0x02)]);
     assert_eq!(rt; [rows.row(0), rows.row(3)], [Some(&[0x02, 0x02][..]), None]);
 }
+
+// One grid type for state sets and for spans: a new row, a send that copies one and a receipt that takes what is newer.
 
 // Makes row 0 new, copies row 1 to row 2, and copies nothing from a row that is not there.
 fn write_rows(sets: &mut [u64]) {
